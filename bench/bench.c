@@ -1,0 +1,169 @@
+/* Times the check of an interchange beside a plain scan of its bytes, and measures the stack that a check uses.
+ * Usage: bench DEEPEST FILE...: DEEPEST holds a message that goes as deep as the chart does; each FILE is an interchange of
+ * realistic messages, the shortest first. */
+#define _POSIX_C_SOURCE 200809L
+#include <inttypes.h>
+#include <pthread.h>
+#include <stdio.h>
+#include <stdlib.h>
+#include <string.h>
+#include <time.h>
+#include "../include/twineherald.h"
+
+enum { LISTS = 9999, ROUNDS = 7, STACK = 1 << 20, MOST_STACK = 4096 };
+
+typedef struct {
+    const uint8_t *bytes;
+    size_t length;
+    uint16_t *rows;
+    uint32_t *starts;
+    uint64_t *totals;
+    uint64_t accepted;
+} work;
+
+static double now(void)
+{
+    struct timespec t;
+    clock_gettime(CLOCK_MONOTONIC, &t);
+    return (double)t.tv_sec + (double)t.tv_nsec / 1e9;
+}
+
+/* One plain scan: counts the unreleased terminators. */
+static uint64_t scan(const uint8_t *bytes, size_t length)
+{
+    uint64_t ends = 0;
+    int released = 0;
+    for (size_t i = 0; i < length; i++) {
+        if (released)
+            released = 0;
+        else if (bytes[i] == '?')
+            released = 1;
+        else if (bytes[i] == '\'')
+            ends++;
+    }
+    return ends;
+}
+
+/* Opens, walks through every message and closes. */
+static void check_all(work *w)
+{
+    size_t at = 0;
+    w->accepted = 0;
+    if (twineherald_open(w->bytes, w->length) != 0)
+        return;
+    for (;;) {
+        twineherald_step step = twineherald_walk(w->bytes, w->length, at, w->rows, LISTS, w->starts, LISTS, w->totals, LISTS);
+        if (!step.found)
+            break;
+        if (step.number == 0)
+            w->accepted++;
+        at = step.end;
+    }
+    (void)twineherald_close(w->bytes, w->length);
+}
+
+static void walk_all(work *w)
+{
+    size_t at = 0;
+    for (;;) {
+        twineherald_step step = twineherald_walk(w->bytes, w->length, at, w->rows, LISTS, w->starts, LISTS, w->totals, LISTS);
+        if (!step.found)
+            return;
+        at = step.end;
+    }
+}
+
+static double best(void (*run)(work *), work *w)
+{
+    double least = 1e9;
+    for (int k = 0; k < ROUNDS; k++) {
+        double from = now();
+        run(w);
+        double took = now() - from;
+        if (took < least)
+            least = took;
+    }
+    return least;
+}
+
+static volatile uint64_t sink;
+static void scan_all(work *w) { sink = scan(w->bytes, w->length); }
+
+static void *nothing(void *unused) { return unused; }
+static void *on_thread(void *p)
+{
+    check_all(p);
+    return p;
+}
+
+/* How many bytes of a painted stack a thread touched. */
+static size_t touched(void *(*run)(void *), void *p)
+{
+    unsigned char *stack = NULL;
+    if (posix_memalign((void **)&stack, 65536, STACK) != 0)
+        exit(2);
+    memset(stack, 0xA5, STACK);
+    pthread_attr_t attr;
+    pthread_t thread;
+    if (pthread_attr_init(&attr) != 0 || pthread_attr_setstack(&attr, stack, STACK) != 0 || pthread_create(&thread, &attr, run, p) != 0)
+        exit(2);
+    pthread_join(thread, NULL);
+    size_t clean = 0;
+    while (clean < STACK && stack[clean] == 0xA5)
+        clean++;
+    free(stack);
+    return STACK - clean;
+}
+
+static uint8_t *read_file(const char *path, size_t *length)
+{
+    FILE *f = fopen(path, "rb");
+    if (f == NULL)
+        exit(2);
+    fseek(f, 0, SEEK_END);
+    *length = (size_t)ftell(f);
+    rewind(f);
+    uint8_t *bytes = malloc(*length + 1);
+    if (bytes == NULL || fread(bytes, 1, *length, f) != *length)
+        exit(2);
+    fclose(f);
+    return bytes;
+}
+
+int main(int count, char **files)
+{
+    double first = 0, last = 0;
+    size_t stack = 0;
+    work w = {0};
+    w.rows = calloc(LISTS, sizeof *w.rows);
+    w.starts = calloc(LISTS, sizeof *w.starts);
+    w.totals = calloc(LISTS, sizeof *w.totals);
+    if (count < 3 || w.rows == NULL || w.starts == NULL || w.totals == NULL)
+        return 2;
+    size_t empty = touched(nothing, NULL);
+    uint8_t *deepest = read_file(files[1], &w.length);
+    w.bytes = deepest;
+    stack = touched(on_thread, &w) - empty;
+    printf("stack: %zu bytes besides the lists at the deepest placement (%" PRIu64 " accepted)\n", stack, w.accepted);
+    free(deepest);
+    for (int k = 2; k < count; k++) {
+        uint8_t *bytes = read_file(files[k], &w.length);
+        w.bytes = bytes;
+        double plain = best(scan_all, &w), whole = best(check_all, &w), walk = best(walk_all, &w);
+        size_t used = touched(on_thread, &w) - empty;
+        if (used > stack)
+            stack = used;
+        last = whole / (double)w.length;
+        if (k == 2)
+            first = last;
+        printf("%8zu bytes, %4" PRIu64 " messages accepted: plain scan %.3f ms, open, walk and close %.3f ms (%.1f scans), walk alone %.3f ms (%.1f scans)\n",
+               w.length, w.accepted, plain * 1e3, whole * 1e3, whole / plain, walk * 1e3, walk / plain);
+        free(bytes);
+    }
+    printf("cost of a byte, longest against shortest: %.2f\n", last / first);
+    printf("stack: %zu bytes besides the lists at most\n", stack);
+    free(w.rows);
+    free(w.starts);
+    free(w.totals);
+    return last < 2 * first && stack < MOST_STACK ? 0 : 1;
+}

@@ -1,0 +1,55 @@
+-- Some messages on the chart: the least one, the document's message of a UNH and a UNT, and where that message's segments begin. Assumes nothing.
+use mathlib.Core.Path.{_≡_, refl, subst}
+use mathlib.Core.Bool.{true}
+use mathlib.Core.List.{List, [], _∷_}
+use Prim.Native.Nat.{ℕ, _+_}
+use Rattle.service.specs.declared.Service.{Service}
+use Rattle.segments.specs.Bytes.{classOf, endFrom, pastBreaks}
+use Rattle.segments.specs.Segments.{segmentAt}
+use Rattle.chart.specs.Chart.{Reading, FailsAt, FirstMisfit}
+use Rattle.chart.specs.Machine.{only, run, step, stepRows, free, freeRows, placed, stuck, choose, takes, owed, rowsBy}
+use Rattle.chart.specs.Table.{UNH, BGM, DTM, LIN, RFF, MOA, FII, SEQ, CNT, UNT, chart, table, rowOver, inside}
+use Rattle.chart.specs.Columns.{tagOf, endOf, firstOf}
+use Rattle.chart.specs.Next.{nextOf, chain, chainFrom, findIn, nextRow, rowsOf}
+use Rattle.chart.specs.Tags.{startsIn, startsFrom, startsOf}
+use Rattle.chart.proofs.Plain.{placed-one, stuck-fails}
+use Rattle.chart.proofs.Theorems.{closed-fails}
+use Rattle.chart.proofs.Whole.{chart-fine, chart-closing, reading-of}
+
+-- ---- one order of one payment, with no segment that may be left out
+abbrev least : List ℕ
+least = UNH ∷ BGM ∷ DTM ∷ LIN ∷ DTM ∷ RFF ∷ MOA ∷ FII ∷ SEQ ∷ MOA ∷ RFF ∷ CNT ∷ UNT ∷ []
+
+least-run : run least (only chart) 0 ≡ placed
+unfolding chart table rowOver inside run step stepRows free freeRows choose takes owed
+least-run = refl
+
+least-rows : rowsOf least ≡ 1 ∷ 2 ∷ 3 ∷ 17 ∷ 18 ∷ 19 ∷ 23 ∷ 28 ∷ 50 ∷ 51 ∷ 53 ∷ 108 ∷ 112 ∷ []
+unfolding rowsBy nextRow chain chainFrom findIn nextOf tagOf table firstOf endOf
+least-rows = refl
+
+pub least-reading : Reading chart least (1 ∷ 2 ∷ 3 ∷ 17 ∷ 18 ∷ 19 ∷ 23 ∷ 28 ∷ 50 ∷ 51 ∷ 53 ∷ 108 ∷ 112 ∷ [])
+least-reading =
+    let p = placed-one chart least chart-fine least-run in
+    subst (λ (l : List ℕ). Reading chart least l) least-rows (reading-of least (p .0) (p .1))
+
+-- ---- UNH and UNT alone: no message begins so, and the misfit is the second segment
+short-run : run (UNH ∷ UNT ∷ []) (only chart) 0 ≡ stuck 1
+unfolding chart table rowOver inside run step stepRows free freeRows choose takes owed
+short-run = refl
+
+pub short-misfit : FirstMisfit chart (UNH ∷ UNT ∷ []) 1
+short-misfit = closed-fails chart UNT chart-closing (UNH ∷ UNT ∷ []) (UNH ∷ []) refl 1 (stuck-fails chart (UNH ∷ UNT ∷ []) 1 chart-fine short-run)
+
+-- ---- its bytes, UNH+1+PAYMUL:D:96A:UN'UNT+2+1'
+abbrev plain : Service
+plain = record { component = 58; element = 43; release = 63; releases = true; terminator = 39 }
+
+abbrev short : List ℕ
+short =
+    85 ∷ 78 ∷ 72 ∷ 43 ∷ 49 ∷ 43 ∷ 80 ∷ 65 ∷ 89 ∷ 77 ∷ 85 ∷ 76 ∷ 58 ∷ 68 ∷ 58 ∷ 57 ∷ 54 ∷ 65 ∷ 58 ∷ 85 ∷ 78 ∷ 39 ∷
+    85 ∷ 78 ∷ 84 ∷ 43 ∷ 50 ∷ 43 ∷ 49 ∷ 39 ∷ []
+
+pub short-starts : startsOf plain short ≡ 0 ∷ 22 ∷ []
+unfolding startsIn startsFrom segmentAt endFrom classOf pastBreaks
+short-starts = refl

@@ -1,0 +1,10 @@
+pub mod Answers
+pub mod Cases
+pub mod Guide
+pub mod Nest
+pub mod Plain
+pub mod Stream
+pub mod Theorems
+pub mod Theory
+pub mod Walk
+pub mod Whole

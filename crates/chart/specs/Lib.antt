@@ -1,0 +1,13 @@
+pub mod Answer
+pub mod Chart
+pub mod Columns
+pub mod Cursor
+pub mod CursorLaws
+pub mod Machine
+pub mod Next
+pub mod Placing
+pub mod Table
+pub mod Tags
+pub mod TagsLaws
+pub mod Rows
+pub mod RowsLaws

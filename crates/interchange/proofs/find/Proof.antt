@@ -1,0 +1,80 @@
+-- `interchange::find` meets its contract. The invariant: the position was not passed backwards. Assumes nothing.
+use borrow.Author.Needs.{needs}
+use Prim.Native.Nat.{_-_, _≤_}
+use lib.ListN.{length}
+use Rattle.segments.specs.SegmentsLaws.{less-segment, segment-keep}
+use Rattle.interchange.specs.Extent.{none, cut}
+use Rattle.interchange.specs.ExtentLaws.{head-before, head-within, within-earlier, breaks-on}
+use Rattle.interchange.proofs.find.Statement.{statement}
+use Rattle.interchange.proofs.find.Tie as tie
+use Rattle.interchange.proofs.find.Reads as reads
+use Rattle.interchange.proofs.find.Lts as lts
+use Rattle.interchange.proofs.find_end.Reads as find-end-reads
+use Rattle.interchange.proofs.tag_at.Reads as tag-at-reads
+use Rattle.segments.proofs.segment_at.Reads as segment-at-reads
+use Rattle.segments.proofs.skip_breaks.Reads as skip-breaks-reads
+
+abbrev Inv-loop : tie.InvT-loop
+Inv-loop s at v i₀ i = at ≤ i
+
+abbrev μ-loop : tie.MeasureT-loop
+μ-loop s at v i₀ i = length s - i
+
+skip-breaks-requires : tie.Need-skip-breaks-requires Inv-loop μ-loop
+skip-breaks-requires c κs = search (less-segment, segment-keep, head-before, head-within, within-earlier, breaks-on, none, cut, needs)
+
+loop-holds : tie.Need-loop-holds Inv-loop μ-loop
+loop-holds c = search (less-segment, segment-keep, head-before, head-within, within-earlier, breaks-on, none, cut, needs)
+
+segment-at-requires : tie.Need-segment-at-requires Inv-loop μ-loop
+segment-at-requires c κs = search (less-segment, segment-keep, head-before, head-within, within-earlier, breaks-on, none, cut, needs)
+
+enum-known-g : tie.Need-enum-known-g Inv-loop μ-loop
+enum-known-g c = search (less-segment, segment-keep, head-before, head-within, within-earlier, breaks-on, none, cut, needs)
+
+tag-at-requires : tie.Need-tag-at-requires Inv-loop μ-loop
+tag-at-requires c κs = search (less-segment, segment-keep, head-before, head-within, within-earlier, breaks-on, none, cut, needs)
+
+find-end-requires : tie.Need-find-end-requires Inv-loop μ-loop
+find-end-requires c κs = search (less-segment, segment-keep, head-before, head-within, within-earlier, breaks-on, none, cut, needs)
+
+returns : tie.Need-returns Inv-loop μ-loop
+returns c = search (less-segment, segment-keep, head-before, head-within, within-earlier, breaks-on, none, cut, needs)
+
+loop-less : tie.Need-loop-less Inv-loop μ-loop
+loop-less c = search (less-segment, segment-keep, head-before, head-within, within-earlier, breaks-on, none, cut, needs)
+
+loop-again : tie.Need-loop-again Inv-loop μ-loop
+loop-again c = search (less-segment, segment-keep, head-before, head-within, within-earlier, breaks-on, none, cut, needs)
+
+enum-told : tie.Need-enum-told Inv-loop μ-loop
+enum-told c = search (less-segment, segment-keep, head-before, head-within, within-earlier, breaks-on, none, cut, needs)
+
+returns-2 : tie.Need-returns-2 Inv-loop μ-loop
+returns-2 c = search (less-segment, segment-keep, head-before, head-within, within-earlier, breaks-on, none, cut, needs)
+
+enum-told-2 : tie.Need-enum-told-2 Inv-loop μ-loop
+enum-told-2 c = search (less-segment, segment-keep, head-before, head-within, within-earlier, breaks-on, none, cut, needs)
+
+returns-3 : tie.Need-returns-3 Inv-loop μ-loop
+returns-3 c = search (less-segment, segment-keep, head-before, head-within, within-earlier, breaks-on, none, cut, needs)
+
+pub find-spec : {M : Type 1} → statement M
+find-spec =
+    tie.close
+    (tie.spec
+    Inv-loop
+    μ-loop
+    skip-breaks-requires
+    loop-holds
+    segment-at-requires
+    enum-known-g
+    tag-at-requires
+    find-end-requires
+    returns
+    loop-less
+    loop-again
+    enum-told
+    returns-2
+    enum-told-2
+    returns-3)

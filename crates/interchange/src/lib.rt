@@ -1,0 +1,294 @@
+// The envelope of an interchange, and where its messages lie.
+ghost use Prim.Native.Nat.{ℕ, _≤_, _<_};
+ghost use lib.ListN.{length};
+ghost use Rattle.interchange.specs.Extent.{Within, Short};
+use segments::Segment;
+use service::Characters;
+use service::Service;
+
+pub const UNB: u64 = 0x0155_4e42;
+
+pub const UNH: u64 = 0x0155_4e48;
+
+pub const UNT: u64 = 0x0155_4e54;
+
+pub const UNZ: u64 = 0x0155_4e5a;
+// The most bytes of an interchange.
+pub const MOST: usize = 1048576;
+
+// A number of the table, a segment (the UNH is 1) and an offset from the UNH's first byte.
+pub struct Refusal {
+    pub number: u32,
+    pub segment: u32,
+    pub offset: u32,
+}
+
+pub enum Opening {
+    // The service characters, and where the UNB begins.
+    Opens(Service, usize),
+    Refused(Refusal),
+}
+
+pub enum Found {
+    // A message, from its first byte up to but excluding the second place.
+    Message(usize, usize),
+    // No message is left.
+    Nothing,
+    // A segment that is not finished comes first.
+    Unfinished,
+}
+
+pub struct Survey {
+    pub messages: u64,
+    pub strays: u64,
+    // Where the end UNZ begins.
+    pub end: usize,
+}
+
+// What closing says: 0 or the number of a refusal, with the messages and the strays.
+pub struct Closing {
+    pub number: u32,
+    pub messages: u64,
+    pub strays: u64,
+}
+
+// A refusal that speaks of the whole interchange.
+pub fn refuse(number: u32) -> Refusal {
+    Refusal {
+        number,
+        segment: 0,
+        offset: 0,
+    }
+}
+
+// The tag of the segment that begins at `at`, as a code; 0 where no byte is left.
+pub fn tag_at(s: &[u8], at: usize, v: Service) -> u64 {
+    if at < s.len() {
+        return values::code_at(s, at, v);
+    }
+    0
+}
+
+// Whether a length is 1 to 14.
+pub fn is_reference(n: usize) -> bool {
+    if n < 1 {
+        return false;
+    }
+    n <= 14
+}
+
+// Whether the segment at `at` is a UNB of syntax version 3 with a control reference.
+fn is_header(s: &[u8], at: usize, v: Service) -> bool {
+    if tag_at(s, at, v) == UNB {
+        if values::code_in(s, at, v, 1, 1) == 0x0133 {
+            let p = parts::component(s, at, v, 5, 0);
+            let n = values::value_len(s, p, v);
+            return is_reference(n);
+        }
+    }
+    false
+}
+
+// Whether the last of the segments from `at` on is a finished UNZ.
+fn ends_with_unz(s: &[u8], at: usize, v: Service) -> bool {
+    let mut i = at;
+    let mut last = false;
+    loop {
+        let g = segments::segment_at(s, i, v);
+        match g {
+            Segment::Finished(_, next) => {
+                last = tag_at(s, i, v) == UNZ;
+                i = next;
+            }
+            Segment::Unfinished => {
+                return false;
+            }
+            Segment::Nothing => {
+                return last;
+            }
+        }
+    }
+}
+
+// Where the first segment begins: after UNA and its breaks, or at the first byte.
+fn first_segment(s: &[u8], una: usize) -> usize {
+    if una == 0 {
+        return 0;
+    }
+    segments::skip_breaks(s, una)
+}
+
+fn open_with(s: &[u8], v: Service, una: usize) -> Opening
+    requires { ⌜ length (now s) ≤ 1048576 ⌝ }
+    ensures { λ r. ⌜ Short (now (s .entry)) r ⌝ }
+{
+    let first = first_segment(s, una);
+    if is_header(s, first, v) {
+        if ends_with_unz(s, first, v) {
+            return Opening::Opens(v, first);
+        }
+        return Opening::Refused(refuse(4));
+    }
+    Opening::Refused(refuse(3))
+}
+
+// Whether the bytes are an interchange that opens.
+pub fn open(s: &[u8]) -> Opening
+    ensures { λ r. ⌜ Short (now (s .entry)) r ⌝ }
+{
+    if MOST < s.len() {
+        return Opening::Refused(refuse(1));
+    }
+    let c = service::characters_of(s);
+    match c {
+        Characters::Fit(v, una) => open_with(s, v, una),
+        Characters::Unfit => Opening::Refused(refuse(2)),
+    }
+}
+
+// Whether a UNZ whose segment the next one would follow at `next` is the end: nothing but breaks stands there.
+fn is_end(s: &[u8], tag: u64, next: usize) -> bool {
+    if tag == UNZ {
+        return s.len() <= next;
+    }
+    false
+}
+
+// The end of the message that begins at `start`, sought from the segment at `from` on.
+fn find_end(s: &[u8], start: usize, from: usize, v: Service) -> Found
+    requires { ⌜ (start < from) × (start < length (now s)) ⌝ }
+    ensures { λ r. ⌜ Within (now (s .entry)) start r ⌝ }
+{
+    let mut i = from;
+    loop {
+        let g = segments::segment_at(s, i, v);
+        match g {
+            Segment::Finished(t, next) => {
+                let tag = tag_at(s, i, v);
+                if tag == UNT {
+                    return Found::Message(start, t + 1);
+                }
+                if tag == UNH {
+                    return Found::Message(start, i);
+                }
+                if is_end(s, tag, next) {
+                    return Found::Message(start, i);
+                }
+                i = next;
+            }
+            Segment::Unfinished => {
+                return Found::Unfinished;
+            }
+            Segment::Nothing => {
+                return Found::Message(start, s.len());
+            }
+        }
+    }
+}
+
+// The next message from the position `at` on, which is read as though a terminator stood just before.
+pub fn find(s: &[u8], at: usize, v: Service) -> Found
+    ensures { λ r. ⌜ Within (now (s .entry)) at r ⌝ }
+{
+    let mut i = segments::skip_breaks(s, at);
+    loop {
+        let g = segments::segment_at(s, i, v);
+        match g {
+            Segment::Finished(_, next) => {
+                if tag_at(s, i, v) == UNH {
+                    return find_end(s, i, next, v);
+                }
+                i = next;
+            }
+            Segment::Unfinished => {
+                return Found::Unfinished;
+            }
+            Segment::Nothing => {
+                return Found::Nothing;
+            }
+        }
+    }
+}
+
+// The messages and the strays among the segments from `at` on, up to the end UNZ.
+fn survey_of(s: &[u8], at: usize, v: Service) -> Survey {
+    let mut i = at;
+    let mut inside = false;
+    let mut messages: u64 = 0;
+    let mut strays: u64 = 0;
+    loop {
+        let g = segments::segment_at(s, i, v);
+        let Segment::Finished(_, next) = g else {
+            return Survey {
+                messages,
+                strays,
+                end: i,
+            };
+        };
+        let tag = tag_at(s, i, v);
+        if is_end(s, tag, next) {
+            return Survey {
+                messages,
+                strays,
+                end: i,
+            };
+        }
+        if tag == UNH {
+            messages += 1;
+            inside = true;
+        } else if inside {
+            inside = tag != UNT;
+        } else {
+            strays += 1;
+        }
+        i = next;
+    }
+}
+
+// What the UNZ at `end` says against what was found, and against the UNB at `first`.
+fn closing_number(s: &[u8], first: usize, found: Survey, v: Service) -> u32 {
+    let end = found.end;
+    if values::number_is(s, end, v, 1, 0, found.messages) {
+        let p = parts::component(s, first, v, 5, 0);
+        let q = parts::component(s, end, v, 2, 0);
+        if values::same_value(s, p, q, v) {
+            if found.strays == 0 {
+                return 0;
+            }
+            return 7;
+        }
+        return 6;
+    }
+    5
+}
+
+// Counts the messages and the strays, and compares the UNZ with them and with the UNB.
+pub fn close(s: &[u8]) -> Closing {
+    let o = open(s);
+    match o {
+        Opening::Refused(r) => Closing {
+            number: r.number,
+            messages: 0,
+            strays: 0,
+        },
+        Opening::Opens(v, first) => {
+            let found = survey_of(s, past(s, first, v), v);
+            let number = closing_number(s, first, found, v);
+            Closing {
+                number,
+                messages: found.messages,
+                strays: found.strays,
+            }
+        }
+    }
+}
+
+// Where the segment after the one at `at` begins, or the end of the bytes.
+pub fn past(s: &[u8], at: usize, v: Service) -> usize {
+    let g = segments::segment_at(s, at, v);
+    match g {
+        Segment::Finished(_, next) => next,
+        Segment::Unfinished => s.len(),
+        Segment::Nothing => s.len(),
+    }
+}

@@ -1,0 +1,100 @@
+-- `listing::put_segments` meets its contract. The invariant: entries from the count on are as before. Assumes nothing.
+use borrow.Author.Needs.{needs}
+use Prim.Native.Nat.{_-_, _≤_}
+use lib.ListN.{length}
+use Rattle.lent.specs.Kept.{Kept}
+use Rattle.lent.specs.KeptLaws.{kept-start, kept-set, kept-room}
+use Rattle.listing.proofs.put_segments.Statement.{statement}
+use Rattle.listing.proofs.put_segments.Tie as tie
+use Rattle.listing.proofs.put_segments.Reads as reads
+use Rattle.listing.proofs.put_segments.Lts as lts
+use Rattle.chart.proofs.cursor_at.Reads as cursor-at-reads
+use Rattle.chart.proofs.next_row.Reads as next-row-reads
+use Rattle.chart.proofs.step.Reads as step-reads
+use Rattle.lent.proofs.low16.Reads as low16-reads
+use Rattle.lent.proofs.low32.Reads as low32-reads
+
+abbrev Inv-loop : tie.InvT-loop
+Inv-loop m v count rows₀ starts₀ c₀ row₀ k₀ rows starts c row k = Kept count rows₀ rows × Kept count starts₀ starts
+
+abbrev μ-loop : tie.MeasureT-loop
+μ-loop m v count rows₀ starts₀ c₀ row₀ k₀ rows starts c row k = count - k
+
+returns : tie.Need-returns Inv-loop μ-loop
+returns c = search (kept-start, kept-set, kept-room, needs)
+
+returns-2 : tie.Need-returns-2 Inv-loop μ-loop
+returns-2 c = search (kept-start, kept-set, kept-room, needs)
+
+cursor-at-requires : tie.Need-cursor-at-requires Inv-loop μ-loop
+cursor-at-requires c κs = search (kept-start, kept-set, kept-room, needs)
+
+loop-holds : tie.Need-loop-holds Inv-loop μ-loop
+loop-holds c = search (kept-start, kept-set, kept-room, needs)
+
+next-row-requires : tie.Need-next-row-requires Inv-loop μ-loop
+next-row-requires c κs = search (kept-start, kept-set, kept-room, needs)
+
+low16-requires : tie.Need-low16-requires Inv-loop μ-loop
+low16-requires c κs = search (kept-start, kept-set, kept-room, needs)
+
+low32-requires : tie.Need-low32-requires Inv-loop μ-loop
+low32-requires c κs = search (kept-start, kept-set, kept-room, needs)
+
+mul-rows : tie.Need-mul-rows Inv-loop μ-loop
+mul-rows c = search (kept-start, kept-set, kept-room, needs)
+
+slice-write-rows : tie.Need-slice-write-rows Inv-loop μ-loop
+slice-write-rows c = search (kept-start, kept-set, kept-room, needs)
+
+mul-starts : tie.Need-mul-starts Inv-loop μ-loop
+mul-starts c = search (kept-start, kept-set, kept-room, needs)
+
+slice-write-starts : tie.Need-slice-write-starts Inv-loop μ-loop
+slice-write-starts c = search (kept-start, kept-set, kept-room, needs)
+
+step-requires : tie.Need-step-requires Inv-loop μ-loop
+step-requires c κs = search (kept-start, kept-set, kept-room, needs)
+
+add-k : tie.Need-add-k Inv-loop μ-loop
+add-k c = search (kept-start, kept-set, kept-room, needs)
+
+loop-less : tie.Need-loop-less Inv-loop μ-loop
+loop-less c = search (kept-start, kept-set, kept-room, needs)
+
+loop-again : tie.Need-loop-again Inv-loop μ-loop
+loop-again c = search (kept-start, kept-set, kept-room, needs)
+
+same-length : tie.Need-same-length Inv-loop μ-loop
+same-length c = search (kept-start, kept-set, kept-room, needs)
+
+same-length-2 : tie.Need-same-length-2 Inv-loop μ-loop
+same-length-2 c = search (kept-start, kept-set, kept-room, needs)
+
+returns-3 : tie.Need-returns-3 Inv-loop μ-loop
+returns-3 c = search (kept-start, kept-set, kept-room, needs)
+
+pub put-segments-spec : {M : Type 1} → statement M
+put-segments-spec =
+    tie.close
+    (tie.spec
+    Inv-loop
+    μ-loop
+    returns
+    returns-2
+    cursor-at-requires
+    loop-holds
+    next-row-requires
+    low16-requires
+    low32-requires
+    mul-rows
+    slice-write-rows
+    mul-starts
+    slice-write-starts
+    step-requires
+    add-k
+    loop-less
+    loop-again
+    same-length
+    same-length-2
+    returns-3)

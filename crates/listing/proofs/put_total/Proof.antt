@@ -1,0 +1,45 @@
+-- `listing::put_total` meets its contract. Assumes nothing.
+use Rattle.lent.specs.KeptLaws.{kept-start, kept-set}
+use borrow.Author.Needs.{needs}
+use Rattle.listing.proofs.put_total.Statement.{statement}
+use Rattle.listing.proofs.put_total.Tie as tie
+use Rattle.listing.proofs.put_total.Reads as reads
+use Rattle.listing.proofs.put_total.Lts as lts
+use Rattle.listing.proofs.total_at.Reads as total-at-reads
+
+total-at-requires : tie.Need-total-at-requires
+total-at-requires c κs = search (kept-start, kept-set, needs)
+
+mul-totals : tie.Need-mul-totals
+mul-totals c = search (kept-start, kept-set, needs)
+
+slice-write-totals : tie.Need-slice-write-totals
+slice-write-totals c = search (kept-start, kept-set, needs)
+
+add-result : tie.Need-add-result
+add-result c = search (kept-start, kept-set, needs)
+
+same-length : tie.Need-same-length
+same-length c = search (kept-start, kept-set, needs)
+
+returns : tie.Need-returns
+returns c = search (kept-start, kept-set, needs)
+
+returns-2 : tie.Need-returns-2
+returns-2 c = search (kept-start, kept-set, needs)
+
+returns-3 : tie.Need-returns-3
+returns-3 c = search (kept-start, kept-set, needs)
+
+pub put-total-spec : {M : Type 1} → statement M
+put-total-spec =
+    tie.close
+    (tie.spec
+    total-at-requires
+    mul-totals
+    slice-write-totals
+    add-result
+    same-length
+    returns
+    returns-2
+    returns-3)

@@ -1,0 +1,42 @@
+-- Bytes to segments.
+use Prim.Native.Nat.{ℕ, suc}
+use mathlib.Core.List.{List, [], _∷_}
+use mathlib.Core.Bool.{Bool, true, false}
+use lib.Dec.{eqb}
+use Rattle.service.specs.declared.Service.{Service}
+use Rattle.segments.specs.declared.Class.{Class}
+use Rattle.segments.specs.declared.Class.the-variants.{Plain, Comp, Elem, Rel, Term}
+use Rattle.segments.specs.declared.End.{End}
+use Rattle.segments.specs.declared.End.the-variants.{At, None}
+
+-- `a` where the test holds, else `b`
+abbrev pub if : {A : Type 0} → Bool → A → A → A
+if true a b = a
+if false a b = b
+
+-- what an unreleased byte is
+unfoldable pub classOf : Service → ℕ → Class
+classOf v b =
+    if (eqb b (v .terminator)) Term
+    (if (eqb b (v .element)) Elem
+    (if (eqb b (v .component)) Comp
+    (if (v .releases) (if (eqb b (v .release)) Rel Plain) Plain)))
+
+-- by what the next byte is: the segment ends at i, or goes on after a release, or goes on
+abbrev pub endBy : Class → ℕ → End → End → End
+endBy Plain i rel on = on
+endBy Comp i rel on = on
+endBy Elem i rel on = on
+endBy Rel i rel on = rel
+endBy Term i rel on = At i
+
+-- the index of the first unreleased terminator of the bytes, the first of which stands at i and is released or not
+unfoldable pub endFrom : Service → Bool → ℕ → List ℕ → End
+endFrom v r i [] = None
+endFrom v true i (b ∷ s) = endFrom v false (suc i) s
+endFrom v false i (b ∷ s) = endBy (classOf v b) i (endFrom v true (suc i) s) (endFrom v false (suc i) s)
+
+-- the index past the breaks that the bytes begin with
+unfoldable pub pastBreaks : ℕ → List ℕ → ℕ
+pastBreaks i [] = i
+pastBreaks i (b ∷ s) = if (eqb b 13) (pastBreaks (suc i) s) (if (eqb b 10) (pastBreaks (suc i) s) i)

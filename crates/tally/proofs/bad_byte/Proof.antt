@@ -1,0 +1,57 @@
+-- `tally::bad_byte` meets its contract: it ends. Assumes nothing.
+use borrow.Author.Needs.{needs}
+use Prim.Native.Nat.{_-_}
+use Rattle.tally.proofs.bad_byte.Statement.{statement}
+use Rattle.tally.proofs.bad_byte.Tie as tie
+use Rattle.tally.proofs.bad_byte.Reads as reads
+use Rattle.tally.proofs.bad_byte.Lts as lts
+use Rattle.tally.proofs.is_value_byte.Reads as is-value-byte-reads
+
+abbrev Inv-loop : tie.InvT-loop
+Inv-loop m from to i₀ i = Unit {0}
+
+abbrev μ-loop : tie.MeasureT-loop
+μ-loop m from to i₀ i = to - i
+
+loop-holds : tie.Need-loop-holds Inv-loop μ-loop
+loop-holds c = search needs
+
+returns : tie.Need-returns Inv-loop μ-loop
+returns c = search needs
+
+shared-slice-read-is-value-byte : tie.Need-shared-slice-read-is-value-byte Inv-loop μ-loop
+shared-slice-read-is-value-byte c = search needs
+
+is-value-byte-requires : tie.Need-is-value-byte-requires Inv-loop μ-loop
+is-value-byte-requires c κs = search needs
+
+add-i : tie.Need-add-i Inv-loop μ-loop
+add-i c = search needs
+
+loop-less : tie.Need-loop-less Inv-loop μ-loop
+loop-less c = search needs
+
+loop-again : tie.Need-loop-again Inv-loop μ-loop
+loop-again c = search needs
+
+returns-2 : tie.Need-returns-2 Inv-loop μ-loop
+returns-2 c = search needs
+
+returns-3 : tie.Need-returns-3 Inv-loop μ-loop
+returns-3 c = search needs
+
+pub bad-byte-spec : {M : Type 1} → statement M
+bad-byte-spec =
+    tie.close
+    (tie.spec
+    Inv-loop
+    μ-loop
+    loop-holds
+    returns
+    shared-slice-read-is-value-byte
+    is-value-byte-requires
+    add-i
+    loop-less
+    loop-again
+    returns-2
+    returns-3)

@@ -1,0 +1,148 @@
+// A message's bytes gone over once: the first byte that no value may have, its segments counted, its first UNT.
+ghost use Prim.Native.Nat.{ℕ, _+_, _≤_, _<_};
+ghost use lib.ListN.{length};
+ghost use Rattle.tally.specs.Few.{Few};
+use faults::First;
+use segments::Segment;
+use service::Service;
+
+pub const LIN: u64 = 0x014c_494e;
+
+pub const SEQ: u64 = 0x0153_4551;
+
+pub const UNT: u64 = 0x0155_4e54;
+
+pub struct Tally {
+    pub bad: First,
+    pub segments: usize,
+    pub orders: usize,
+    pub payments: usize,
+    pub unt: First,
+}
+
+// Whether a value may have the byte: 0x20 to 0x7E or 0xA0 to 0xFF.
+pub fn is_value_byte(b: u8) -> bool {
+    if b < 0x20 {
+        return false;
+    }
+    if b <= 0x7e {
+        return true;
+    }
+    0xa0 <= b
+}
+
+// The first byte from `from` on that no value may have, before `to`.
+fn bad_byte(m: &[u8], from: usize, to: usize) -> First {
+    let mut i = from;
+    while i < to {
+        if m.len() <= i {
+            return First::None;
+        }
+        if is_value_byte(m[i]) {
+            i += 1;
+        } else {
+            return First::At(i);
+        }
+    }
+    First::None
+}
+
+fn count_if(holds: bool, n: usize) -> usize
+    requires { ⌜ n < 18446744073709551615 ⌝ }
+    ensures { λ r. ⌜ r ≤ n + 1 ⌝ }
+{
+    if holds { n + 1 } else { n }
+}
+
+// One finished segment more: it begins at `at`, and its terminator stands at `end`.
+fn count(t: Tally, m: &[u8], at: usize, end: usize, tag: u64) -> Tally
+    requires { ⌜ Few t at × (at < length (now m)) ⌝ }
+    ensures { λ r. ⌜ Few r (at + 1) ⌝ }
+{
+    let bad = t.bad;
+    let unt = t.unt;
+    let now = bad_byte(m, at, end);
+    let first = faults::earlier(bad, now);
+    let here = faults::keep(unt, tag != UNT, at);
+    Tally {
+        bad: first,
+        segments: t.segments + 1,
+        orders: count_if(tag == LIN, t.orders),
+        payments: count_if(tag == SEQ, t.payments),
+        unt: here,
+    }
+}
+
+// The tally with the bytes from `at` on, which are no finished segment.
+fn finish(t: Tally, m: &[u8], at: usize) -> Tally {
+    let bad = t.bad;
+    let unt = t.unt;
+    let now = bad_byte(m, at, m.len());
+    let first = faults::earlier(bad, now);
+    Tally {
+        bad: first,
+        segments: t.segments,
+        orders: t.orders,
+        payments: t.payments,
+        unt,
+    }
+}
+
+pub fn tally_of(m: &[u8], v: Service) -> Tally {
+    let mut t = Tally {
+        bad: First::None,
+        segments: 0,
+        orders: 0,
+        payments: 0,
+        unt: First::None,
+    };
+    let mut i: usize = 0;
+    loop {
+        let g = segments::segment_at(m, i, v);
+        match g {
+            Segment::Finished(end, next) => {
+                let tag = values::code_at(m, i, v);
+                t = count(t, m, i, end, tag);
+                i = next;
+            }
+            Segment::Unfinished => {
+                return finish(t, m, i);
+            }
+            Segment::Nothing => {
+                return t;
+            }
+        }
+    }
+}
+
+// How many segments end before the one that holds the byte at `at`.
+pub fn segments_before(m: &[u8], v: Service, at: usize) -> usize {
+    let mut n: usize = 0;
+    let mut i: usize = 0;
+    loop {
+        let g = segments::segment_at(m, i, v);
+        let Segment::Finished(_, next) = g else {
+            return n;
+        };
+        if at < next {
+            return n;
+        }
+        n += 1;
+        i = next;
+    }
+}
+
+// Where segment `k` begins, counted from 1; the end of the bytes where there are fewer.
+pub fn segment_start(m: &[u8], v: Service, k: usize) -> usize {
+    let mut n: usize = 1;
+    let mut i: usize = 0;
+    while n < k {
+        let g = segments::segment_at(m, i, v);
+        let Segment::Finished(_, next) = g else {
+            return m.len();
+        };
+        n += 1;
+        i = next;
+    }
+    i
+}

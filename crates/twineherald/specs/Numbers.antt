@@ -1,0 +1,73 @@
+-- The numbers that C receives for each answer.
+use Prim.Native.Nat.{ℕ, _%_}
+use mathlib.Core.Path.{_≡_}
+use mathlib.Core.List.{List}
+use Rattle.interchange.specs.declared.Refusal.{Refusal}
+use Rattle.report.specs.declared.Counts.{Counts}
+use Rattle.report.specs.declared.Report.{Report}
+use Rattle.report.specs.declared.Report.the-variants as report
+use Rattle.report.specs.Lists as reported
+use Rattle.walk.specs.declared.Walked.{Walked}
+use Rattle.walk.specs.declared.Walked.the-variants as walk
+use Rattle.walk.specs.Lists as walked
+use Rattle.rewrite.specs.declared.Rewriting.{Rewriting}
+use Rattle.rewrite.specs.declared.Rewriting.the-variants as rewrite
+use Rattle.rewrite.specs.Room as rewritten
+use Rattle.twineherald.specs.declared.ReportNumbers.{ReportNumbers}
+use Rattle.twineherald.specs.declared.StepNumbers.{StepNumbers}
+use Rattle.twineherald.specs.declared.RewritingNumbers.{RewritingNumbers}
+
+-- a refusal: its number, segment and offset, and no counts
+abbrev pub refusedOf : Refusal → ReportNumbers
+refusedOf f = record { number = f .number; segment = f .segment; offset = f .offset; segments = 0; orders = 0; payments = 0 }
+
+abbrev pub nothingOf : ReportNumbers
+nothingOf = record { number = 0; segment = 0; offset = 0; segments = 0; orders = 0; payments = 0 }
+
+-- acceptance: number 0, and the counts
+abbrev pub acceptedOf : Counts → ReportNumbers
+acceptedOf c = record {
+  number = 0;
+  segment = 0;
+  offset = 0;
+  segments = c .segments % 4294967296;
+  orders = c .orders % 4294967296;
+  payments = c .payments % 4294967296;
+}
+
+abbrev pub reportOf : Report → ReportNumbers
+reportOf (report.Accepted c) = acceptedOf c
+reportOf (report.Refused f) = refusedOf f
+
+-- a step of the walk: whether a message was found, where it lies, and its report
+abbrev pub stepWith : ℕ → ℕ → ℕ → ReportNumbers → StepNumbers
+stepWith found start end r = record {
+  found = found;
+  start = start % 4294967296;
+  end = end % 4294967296;
+  number = r .number;
+  segment = r .segment;
+  offset = r .offset;
+  segments = r .segments;
+  orders = r .orders;
+  payments = r .payments;
+}
+
+abbrev pub stepOf : Walked → StepNumbers
+stepOf (walk.Message a e r) = stepWith 1 a e (reportOf r)
+stepOf walk.Nothing = stepWith 0 0 0 nothingOf
+stepOf (walk.Refused f) = stepWith 0 0 0 (refusedOf f)
+
+abbrev pub rewritingOf : Rewriting → RewritingNumbers
+rewritingOf (rewrite.Written n) = record { number = 0; length = n % 4294967296 }
+rewritingOf (rewrite.Refused f) = record { number = f .number; length = 0 }
+
+-- the numbers are those of an answer, and the lists are as that answer leaves them
+pub data Stepped : StepNumbers → List ℕ → List ℕ → List ℕ → List ℕ → List ℕ → List ℕ → Type 0 where
+  stepped : (w : Walked) (x : StepNumbers) (r r′ s s′ t t′ : List ℕ) → walked.Lists w r r′ s s′ t t′ → x ≡ stepOf w → Stepped x r r′ s s′ t t′
+
+pub data Reported : ReportNumbers → List ℕ → List ℕ → List ℕ → List ℕ → List ℕ → List ℕ → Type 0 where
+  reported-as : (w : Report) (x : ReportNumbers) (r r′ s s′ t t′ : List ℕ) → reported.Lists w r r′ s s′ t t′ → x ≡ reportOf w → Reported x r r′ s s′ t t′
+
+pub data Rewritten : RewritingNumbers → List ℕ → List ℕ → Type 0 where
+  rewritten-as : (w : Rewriting) (x : RewritingNumbers) (o o′ : List ℕ) → rewritten.Room w o o′ → x ≡ rewritingOf w → Rewritten x o o′

@@ -1,0 +1,191 @@
+// The calls for C: open, walk, check, close and rewrite on byte slices and numbers. include/twineherald.h declares them.
+ghost use mathlib.Core.Path.{_≡_};
+ghost use Prim.Native.Nat.{_%_};
+ghost use Rattle.twineherald.specs.Numbers.{acceptedOf, refusedOf, reportOf, nothingOf, stepWith, stepOf, Stepped, Reported, Rewritten};
+use interchange::Opening;
+use interchange::Refusal;
+use report::Counts;
+use report::Report;
+use rewrite::Rewriting;
+use service::Characters;
+use walk::Walked;
+
+#[repr(C)]
+pub struct ReportNumbers {
+    pub number: u32,
+    pub segment: u32,
+    pub offset: u32,
+    pub segments: u32,
+    pub orders: u32,
+    pub payments: u32,
+}
+
+#[repr(C)]
+pub struct StepNumbers {
+    pub found: u32,
+    pub start: u32,
+    pub end: u32,
+    pub number: u32,
+    pub segment: u32,
+    pub offset: u32,
+    pub segments: u32,
+    pub orders: u32,
+    pub payments: u32,
+}
+
+#[repr(C)]
+pub struct ClosingNumbers {
+    pub number: u32,
+    pub messages: u32,
+    pub strays: u32,
+}
+
+#[repr(C)]
+pub struct RewritingNumbers {
+    pub number: u32,
+    pub length: u32,
+}
+
+fn low32(x: u64) -> u32
+    ensures { λ r. ⌜ r ≡ x % 4294967296 ⌝ }
+{
+    (x % 4294967296) as u32
+}
+
+fn refused(r: Refusal) -> ReportNumbers
+    ensures { λ x. ⌜ x ≡ refusedOf r ⌝ }
+{
+    ReportNumbers {
+        number: r.number,
+        segment: r.segment,
+        offset: r.offset,
+        segments: 0,
+        orders: 0,
+        payments: 0,
+    }
+}
+
+fn nothing() -> ReportNumbers
+    ensures { λ x. ⌜ x ≡ nothingOf ⌝ }
+{
+    ReportNumbers {
+        number: 0,
+        segment: 0,
+        offset: 0,
+        segments: 0,
+        orders: 0,
+        payments: 0,
+    }
+}
+
+fn accepted(c: Counts) -> ReportNumbers
+    ensures { λ x. ⌜ x ≡ acceptedOf c ⌝ }
+{
+    ReportNumbers {
+        number: 0,
+        segment: 0,
+        offset: 0,
+        segments: lent::low32(c.segments),
+        orders: lent::low32(c.orders),
+        payments: lent::low32(c.payments),
+    }
+}
+
+fn report_numbers(r: Report) -> ReportNumbers
+    ensures { λ x. ⌜ x ≡ reportOf r ⌝ }
+{
+    match r {
+        Report::Accepted(c) => accepted(c),
+        Report::Refused(f) => refused(f),
+    }
+}
+
+fn step_numbers(found: u32, start: usize, end: usize, r: ReportNumbers) -> StepNumbers
+    ensures { λ x. ⌜ x ≡ stepWith found start end r ⌝ }
+{
+    StepNumbers {
+        found,
+        start: lent::low32(start),
+        end: lent::low32(end),
+        number: r.number,
+        segment: r.segment,
+        offset: r.offset,
+        segments: r.segments,
+        orders: r.orders,
+        payments: r.payments,
+    }
+}
+
+#[no_mangle]
+pub extern "C" fn twineherald_open(bytes: &[u8]) -> u32 {
+    let o = interchange::open(bytes);
+    match o {
+        Opening::Opens(_, _) => 0,
+        Opening::Refused(r) => r.number,
+    }
+}
+
+#[no_mangle]
+pub extern "C" fn twineherald_walk(
+    bytes: &[u8],
+    at: usize,
+    rows: &mut [u16],
+    starts: &mut [u32],
+    totals: &mut [u64],
+) -> StepNumbers
+    ensures { λ x. ⌜ Stepped x (now (rows .entry)) (now (rows .exit)) (now (starts .entry)) (now (starts .exit)) (now (totals .entry)) (now (totals .exit)) ⌝ }
+{
+    let w = walk::walk(bytes, at, rows, starts, totals);
+    match w {
+        Walked::Message(start, end, r) => step_numbers(1, start, end, report_numbers(r)),
+        Walked::Nothing => step_numbers(0, 0, 0, nothing()),
+        Walked::Refused(f) => step_numbers(0, 0, 0, refused(f)),
+    }
+}
+
+#[no_mangle]
+pub extern "C" fn twineherald_check(
+    head: &[u8],
+    message: &[u8],
+    rows: &mut [u16],
+    starts: &mut [u32],
+    totals: &mut [u64],
+) -> ReportNumbers
+    ensures { λ x. ⌜ Reported x (now (rows .entry)) (now (rows .exit)) (now (starts .entry)) (now (starts .exit)) (now (totals .entry)) (now (totals .exit)) ⌝ }
+{
+    let c = service::characters_of(head);
+    match c {
+        Characters::Fit(v, _) => {
+            let r = report::check(message, v, rows, starts, totals);
+            report_numbers(r)
+        }
+        Characters::Unfit => refused(interchange::refuse(2)),
+    }
+}
+
+#[no_mangle]
+pub extern "C" fn twineherald_close(bytes: &[u8]) -> ClosingNumbers {
+    let c = interchange::close(bytes);
+    ClosingNumbers {
+        number: c.number,
+        messages: low32(c.messages),
+        strays: low32(c.strays),
+    }
+}
+
+#[no_mangle]
+pub extern "C" fn twineherald_rewrite(bytes: &[u8], room: &mut [u8]) -> RewritingNumbers
+    ensures { λ x. ⌜ Rewritten x (now (room .entry)) (now (room .exit)) ⌝ }
+{
+    let r = rewrite::rewrite(bytes, room);
+    match r {
+        Rewriting::Written(n) => RewritingNumbers {
+            number: 0,
+            length: lent::low32(n),
+        },
+        Rewriting::Refused(r) => RewritingNumbers {
+            number: r.number,
+            length: 0,
+        },
+    }
+}

@@ -1,0 +1,90 @@
+-- Values from a position, and what they write.
+use Prim.Native.Nat.{ℕ, suc, zero, _+_, _*_, _-_, _/_}
+use mathlib.Core.List.{List, [], _∷_}
+use mathlib.Core.Bool.{Bool, true, false}
+use lib.ListN.{drop}
+use lib.Dec.{eqb, ltb}
+use Rattle.service.specs.declared.Service.{Service}
+use Rattle.segments.specs.Bytes.{if}
+use Rattle.parts.specs.declared.Token.{Token}
+use Rattle.parts.specs.declared.Token.the-variants as token
+use Rattle.parts.specs.Lex.{lex, valueOf, tokenAt, elements, valueAt}
+use Rattle.values.specs.declared.Next.{Next}
+use Rattle.values.specs.declared.Next.the-variants as next
+use Rattle.values.specs.declared.Amount.{Amount}
+use Rattle.values.specs.declared.Amount.the-variants as amount
+use Rattle.values.specs.declared.Number.{Number}
+use Rattle.values.specs.declared.Number.the-variants as number
+
+-- the value that begins at i
+abbrev pub valueFrom : Service → ℕ → List ℕ → List ℕ
+valueFrom v i s = valueOf (lex v false (drop i s))
+
+abbrev pub nextBy : Token → Next
+nextBy (token.Byte b n) = next.Byte b n
+nextBy (token.Comp n) = next.Done
+nextBy (token.Elem n) = next.Done
+nextBy token.Stop = next.Done
+
+unfoldable pub nextAt : Service → ℕ → List ℕ → Next
+nextAt v i s = nextBy (tokenAt v i (drop i s))
+
+unfoldable pub sameList : List ℕ → List ℕ → Bool
+sameList [] [] = true
+sameList [] (y ∷ ys) = false
+sameList (x ∷ xs) [] = false
+sameList (x ∷ xs) (y ∷ ys) = if (eqb x y) (sameList xs ys) false
+
+-- the number that digits write after `acc`, `count` digits of which some were read: no leading zero, below 10^19
+
+unfoldable pub digits : ℕ → ℕ → List ℕ → Number
+digits count acc [] = if (ltb 0 count) (number.Of acc) number.Not
+digits count acc (b ∷ s) =
+    if (ltb b 48) number.Not
+    (if (ltb 57 b) number.Not
+    (if (ltb 999999999999999999 acc) number.Not
+    (if (ltb 0 count) (if (eqb acc 0) number.Not (digits 1 (acc * 10 + (b - 48)) s)) (digits 1 (acc * 10 + (b - 48)) s))))
+
+unfoldable pub numberOf : List ℕ → Number
+numberOf s = digits 0 0 s
+
+-- ---- amounts, in thousandths
+unfoldable pub isMark : ℕ → Bool
+isMark b = if (eqb b 44) true (eqb b 46)
+
+-- digits that weigh w, w / 10, .. and add to `sum`: at least one, none where w is 0
+unfoldable pub fraction : ℕ → ℕ → List ℕ → Amount
+fraction w sum [] = if (ltb w 100) (amount.Of sum) amount.Not
+fraction w sum (b ∷ s) =
+    if (ltb b 48) amount.Not
+    (if (ltb 57 b) amount.Not
+    (if (eqb w 0) amount.Not (fraction (w / 10) (sum + (b - 48) * w) s)))
+
+unfoldable pub units : ℕ → ℕ → List ℕ → Amount
+units count acc [] = if (ltb 0 count) (amount.Of (acc * 1000)) amount.Not
+units count acc (b ∷ s) =
+    if (isMark b) (if (ltb 0 count) (fraction 100 (acc * 1000) s) amount.Not)
+    (if (ltb b 48) amount.Not
+    (if (ltb 57 b) amount.Not
+    (if (ltb 99999999999 acc) amount.Not
+    (if (ltb 0 count) (if (eqb acc 0) amount.Not (units 1 (acc * 10 + (b - 48)) s)) (units 1 (acc * 10 + (b - 48)) s)))))
+
+abbrev pub amountOf : List ℕ → Amount
+amountOf s = units 0 0 s
+
+-- whether a number read is n
+abbrev pub isNumber : Number → ℕ → Bool
+isNumber (number.Of m) n = eqb m n
+isNumber number.Not n = false
+
+-- ---- codes: the digit 1 and then the bytes, to the base 256; 0 for more than seven bytes
+unfoldable pub codeFrom : ℕ → List ℕ → ℕ
+codeFrom code [] = code
+codeFrom code (b ∷ l) = if (ltb 72057594037927935 code) 0 (codeFrom (code * 256 + b) l)
+
+abbrev pub codeOf : List ℕ → ℕ
+codeOf l = codeFrom 1 l
+
+-- the value of component c of element e of the segment that begins at i
+abbrev pub valueIn : Service → ℕ → List ℕ → ℕ → ℕ → List ℕ
+valueIn v i s e c = valueAt (elements (lex v false (drop i s))) e c

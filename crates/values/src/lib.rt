@@ -1,0 +1,292 @@
+// What the values of a segment say: compared, measured, read as codes, numbers and amounts. A value is given by the position where it begins.
+ghost use mathlib.Core.Path.{_≡_};
+ghost use Prim.Native.Nat.{_+_, _≤_};
+ghost use lib.ListN.{length, take, drop};
+ghost use Rattle.values.specs.Values.{valueFrom, nextAt, sameList, numberOf, isMark, fraction, amountOf, codeOf, isNumber, valueIn};
+use parts::Token;
+use service::Service;
+
+pub enum Next {
+    Byte(u8, usize),
+    Done,
+}
+
+pub enum Number {
+    Of(u64),
+    Not,
+}
+
+pub enum Amount {
+    Of(u64),
+    Not,
+}
+
+// The next byte of the value at `i`, released or not, and where the rest begins.
+pub fn next_at(s: &[u8], i: usize, v: Service) -> Next
+    ensures { λ r. ⌜ r ≡ nextAt v i (now (s .entry)) ⌝ }
+{
+    let t = parts::token_at(s, i, v);
+    match t {
+        Token::Byte(b, n) => Next::Byte(b, n),
+        Token::Comp(_) => Next::Done,
+        Token::Elem(_) => Next::Done,
+        Token::Stop => Next::Done,
+    }
+}
+
+// Whether the values at `a` and at `b` are the same.
+pub fn same_value(s: &[u8], a: usize, b: usize, v: Service) -> bool
+    ensures { λ r. ⌜ r ≡ sameList (valueFrom v a (now (s .entry))) (valueFrom v b (now (s .entry))) ⌝ }
+{
+    let mut i = a;
+    let mut j = b;
+    loop {
+        let t = next_at(s, i, v);
+        let u = next_at(s, j, v);
+        match t {
+            Next::Byte(x, n) => match u {
+                Next::Byte(y, k) => {
+                    if x == y {
+                        i = n;
+                        j = k;
+                    } else {
+                        return false;
+                    }
+                }
+                Next::Done => {
+                    return false;
+                }
+            },
+            Next::Done => match u {
+                Next::Byte(_, _) => {
+                    return false;
+                }
+                Next::Done => {
+                    return true;
+                }
+            },
+        }
+    }
+}
+
+// How many bytes the value at `at` has.
+pub fn value_len(s: &[u8], at: usize, v: Service) -> usize
+    ensures { λ r. ⌜ r ≡ length (valueFrom v at (now (s .entry))) ⌝ }
+{
+    let mut i = at;
+    let mut n = 0;
+    loop {
+        let t = next_at(s, i, v);
+        match t {
+            Next::Byte(_, to) => {
+                i = to;
+                n += 1;
+            }
+            Next::Done => {
+                return n;
+            }
+        }
+    }
+}
+
+fn wide(b: u8) -> u64
+    ensures { λ r. ⌜ r ≡ b ⌝ }
+{
+    b as u64
+}
+
+// The value at `at` as one number: the digit 1 and then its bytes, to the base 256. It is 0 for more than seven bytes.
+pub fn code_at(s: &[u8], at: usize, v: Service) -> u64
+    ensures { λ r. ⌜ r ≡ codeOf (valueFrom v at (now (s .entry))) ⌝ }
+{
+    let mut i = at;
+    let mut code: u64 = 1;
+    loop {
+        let t = next_at(s, i, v);
+        match t {
+            Next::Byte(b, to) => {
+                if 72057594037927935 < code {
+                    return 0;
+                }
+                code = code * 256 + wide(b);
+                i = to;
+            }
+            Next::Done => {
+                return code;
+            }
+        }
+    }
+}
+
+// The number that the value at `at` writes: digits, no leading zero, below 10^19.
+pub fn number_at(s: &[u8], at: usize, v: Service) -> Number
+    ensures { λ r. ⌜ r ≡ numberOf (valueFrom v at (now (s .entry))) ⌝ }
+{
+    let mut i = at;
+    let mut acc: u64 = 0;
+    let mut count: usize = 0;
+    loop {
+        let t = next_at(s, i, v);
+        match t {
+            Next::Byte(b, to) => {
+                if b < 48 {
+                    return Number::Not;
+                }
+                if 57 < b {
+                    return Number::Not;
+                }
+                if 999999999999999999 < acc {
+                    return Number::Not;
+                }
+                if 0 < count {
+                    if acc == 0 {
+                        return Number::Not;
+                    }
+                }
+                acc = acc * 10 + (b - 48) as u64;
+                count = 1;
+                i = to;
+            }
+            Next::Done => {
+                if 0 < count {
+                    return Number::Of(acc);
+                } else {
+                    return Number::Not;
+                }
+            }
+        }
+    }
+}
+
+// The thousandths that up to three digits at `at` add to `total`.
+fn fraction_at(s: &[u8], at: usize, v: Service, total: u64) -> Amount
+    requires { ⌜ total + 1000 ≤ 1000000000000000 ⌝ }
+    ensures { λ r. ⌜ r ≡ fraction 100 total (valueFrom v at (now (s .entry))) ⌝ }
+{
+    let mut i = at;
+    let mut sum = total;
+    let mut w: u64 = 100;
+    loop {
+        let t = next_at(s, i, v);
+        match t {
+            Next::Byte(b, to) => {
+                if b < 48 {
+                    return Amount::Not;
+                }
+                if 57 < b {
+                    return Amount::Not;
+                }
+                if w == 0 {
+                    return Amount::Not;
+                }
+                sum += (b - 48) as u64 * w;
+                w = w / 10;
+                i = to;
+            }
+            Next::Done => {
+                if w < 100 {
+                    return Amount::Of(sum);
+                } else {
+                    return Amount::Not;
+                }
+            }
+        }
+    }
+}
+
+// The thousandths that the value at `at` writes: 1 to 12 digits with no leading zero, and after a mark 1 to 3 digits.
+pub fn amount_at(s: &[u8], at: usize, v: Service) -> Amount
+    ensures { λ r. ⌜ r ≡ amountOf (valueFrom v at (now (s .entry))) ⌝ }
+{
+    let mut i = at;
+    let mut acc: u64 = 0;
+    let mut count: usize = 0;
+    loop {
+        let t = next_at(s, i, v);
+        match t {
+            Next::Byte(b, to) => {
+                if is_mark(b) {
+                    if 0 < count {
+                        return fraction_at(s, to, v, acc * 1000);
+                    } else {
+                        return Amount::Not;
+                    }
+                }
+                if b < 48 {
+                    return Amount::Not;
+                }
+                if 57 < b {
+                    return Amount::Not;
+                }
+                if 99999999999 < acc {
+                    return Amount::Not;
+                }
+                if 0 < count {
+                    if acc == 0 {
+                        return Amount::Not;
+                    }
+                }
+                acc = acc * 10 + (b - 48) as u64;
+                count = 1;
+                i = to;
+            }
+            Next::Done => {
+                if 0 < count {
+                    return Amount::Of(acc * 1000);
+                } else {
+                    return Amount::Not;
+                }
+            }
+        }
+    }
+}
+
+// A comma or a dot.
+fn is_mark(b: u8) -> bool
+    ensures { λ r. ⌜ r ≡ isMark b ⌝ }
+{
+    if b == 44 {
+        return true;
+    }
+    b == 46
+}
+
+// A capital, A to Z.
+fn is_capital(b: u64) -> bool {
+    if b < 65 {
+        return false;
+    }
+    b <= 90
+}
+
+// Whether a code is that of three capitals.
+pub fn is_capitals(code: u64) -> bool {
+    if code / 16777216 == 1 {
+        if is_capital(code / 65536 % 256) {
+            if is_capital(code / 256 % 256) {
+                return is_capital(code % 256);
+            }
+        }
+    }
+    false
+}
+
+// The code of component `c` of element `e` of the segment that begins at `at`.
+pub fn code_in(s: &[u8], at: usize, v: Service, e: usize, c: usize) -> u64
+    ensures { λ r. ⌜ r ≡ codeOf (valueIn v at (now (s .entry)) e c) ⌝ }
+{
+    let p = parts::component(s, at, v, e, c);
+    code_at(s, p, v)
+}
+
+// Whether component `c` of element `e` of the segment that begins at `at` writes the number `n`.
+pub fn number_is(s: &[u8], at: usize, v: Service, e: usize, c: usize, n: u64) -> bool
+    ensures { λ r. ⌜ r ≡ isNumber (numberOf (valueIn v at (now (s .entry)) e c)) n ⌝ }
+{
+    let p = parts::component(s, at, v, e, c);
+    let k = number_at(s, p, v);
+    match k {
+        Number::Of(m) => m == n,
+        Number::Not => false,
+    }
+}

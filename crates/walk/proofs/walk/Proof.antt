@@ -1,0 +1,63 @@
+-- `walk::walk` meets its contract. Assumes nothing.
+use Rattle.walk.specs.Lists.{refused, no-walk}
+use borrow.Author.Needs.{needs}
+use Rattle.walk.proofs.walk.Statement.{statement}
+use Rattle.walk.proofs.walk.Tie as tie
+use Rattle.walk.proofs.walk.Reads as reads
+use Rattle.walk.proofs.walk.Lts as lts
+use Rattle.interchange.proofs.refuse.Reads as refuse-reads
+use Rattle.service.proofs.characters_of.Reads as characters-of-reads
+use Rattle.walk.proofs.walk_with.Reads as walk-with-reads
+
+refuse-requires : tie.Need-refuse-requires
+refuse-requires c κs = search (refused, no-walk, needs)
+
+returns : tie.Need-returns
+returns c = search (refused, no-walk, needs)
+
+characters-of-requires : tie.Need-characters-of-requires
+characters-of-requires c κs = search (refused, no-walk, needs)
+
+enum-known-c : tie.Need-enum-known-c
+enum-known-c c = search (refused, no-walk, needs)
+
+walk-with-requires : tie.Need-walk-with-requires
+walk-with-requires c κs = search (refused, no-walk, needs)
+
+enum-told : tie.Need-enum-told
+enum-told c = search (refused, no-walk, needs)
+
+refuse-requires-2 : tie.Need-refuse-requires-2
+refuse-requires-2 c κs = search (refused, no-walk, needs)
+
+same-length : tie.Need-same-length
+same-length c = search (refused, no-walk, needs)
+
+same-length-2 : tie.Need-same-length-2
+same-length-2 c = search (refused, no-walk, needs)
+
+same-length-3 : tie.Need-same-length-3
+same-length-3 c = search (refused, no-walk, needs)
+
+returns-2 : tie.Need-returns-2
+returns-2 c = search (refused, no-walk, needs)
+
+returns-3 : tie.Need-returns-3
+returns-3 c = search (refused, no-walk, needs)
+
+pub walk-spec : {M : Type 1} → statement M
+walk-spec =
+    tie.close
+    (tie.spec
+    refuse-requires
+    returns
+    characters-of-requires
+    enum-known-c
+    walk-with-requires
+    enum-told
+    refuse-requires-2
+    same-length
+    same-length-2
+    same-length-3
+    returns-2
+    returns-3)

@@ -1,0 +1,477 @@
+//! Inputs for the comparison: good and damaged interchanges, and a few that lie at the limits.
+
+use crate::chart;
+use crate::damage;
+use crate::make::{self, Profile, Segment, Style};
+use crate::random::Random;
+use crate::syntax::{Service, MOST_BYTES};
+
+pub struct Input {
+    pub label: String,
+    pub bytes: Vec<u8>,
+    /// The segments that were written, where the bytes were not damaged after that and every byte could
+    /// be written: then the values are known without reading the bytes.
+    pub segments: Option<Vec<Segment>>,
+    /// Good: every message must be accepted and the interchange must close with 0.
+    pub good: bool,
+}
+
+const RULES: [u32; 14] = [10, 12, 17, 18, 20, 21, 22, 23, 24, 25, 26, 27, 28, 29];
+
+/// A message of about 10,000 segments, damaged or not, so that 13 and what comes before it meet.
+fn long_input(random: &mut Random) -> Input {
+    let count = random.between(9_995, 10_004);
+    let documents = random.chance(70);
+    let mut segments = make::envelope(random, Vec::new());
+    let mut message = make::long_message(random, count, documents);
+    for _ in 0..random.below(3) {
+        let rule = random.pick(&RULES);
+        damage::break_rule(random, &mut message, rule);
+    }
+    segments.splice(1..1, message);
+    if random.chance(80) {
+        make::recount(&mut segments);
+    }
+    let bytes = make::write(random, &segments, &make::PLAIN_STYLE);
+    Input { label: "long".to_string(), bytes, segments: Some(segments), good: false }
+}
+
+/// The next random input.
+pub fn random_input(random: &mut Random) -> Input {
+    if random.below(1000) < 5 {
+        return long_input(random);
+    }
+    let profile = match random.below(10) {
+        0..=5 => make::SMALL,
+        6..=8 => make::MIDDLE,
+        _ => make::RICH,
+    };
+    let count = random.pick(&[0, 1, 1, 1, 1, 1, 1, 2, 2, 2, 3, 4, 5, 6]);
+    let messages: Vec<Vec<Segment>> = (0..count).map(|_| make::message(random, profile)).collect();
+    let mut segments = make::envelope(random, messages);
+    let style = make::style(random);
+    let kind = random.below(100);
+    let (mut label, mut good) = (String::new(), false);
+    match kind {
+        0..=17 => {
+            label += "good";
+            good = true;
+        }
+        18..=59 => {
+            for _ in 0..random.pick(&[1, 1, 1, 2, 3]) {
+                let rule = random.pick(&RULES);
+                let done = damage::break_rule(random, &mut segments, rule);
+                label += &format!("rule {rule}{} ", if done { "" } else { " (nothing to break)" });
+                if rule != 17 && rule != 18 && random.chance(95) {
+                    make::recount(&mut segments);
+                }
+            }
+        }
+        60..=74 => {
+            for _ in 0..random.pick(&[1, 1, 1, 2]) {
+                damage::break_chart(random, &mut segments);
+            }
+            if random.chance(85) {
+                make::recount(&mut segments);
+            }
+            label += "chart ";
+        }
+        75..=82 => {
+            for _ in 0..random.pick(&[1, 1, 2]) {
+                damage::break_envelope(random, &mut segments);
+                if segments.is_empty() {
+                    break;
+                }
+            }
+            if random.chance(20) {
+                make::recount(&mut segments);
+            }
+            label += "envelope ";
+        }
+        83..=85 => {
+            for _ in 0..random.pick(&[1, 2, 4]) {
+                damage::change_value(random, &mut segments);
+            }
+            label += "values ";
+        }
+        _ => label += "bytes ",
+    }
+    // damage of two kinds at once
+    if !good && random.chance(10) && !segments.is_empty() {
+        damage::break_envelope(random, &mut segments);
+        label += "and envelope ";
+    }
+    let mut bytes = make::write(random, &segments, &style);
+    let mut known = style.service.release.is_some().then_some(segments);
+    let special = special(&style);
+    match kind {
+        86..=94 => {
+            for _ in 0..random.pick(&[1, 1, 2, 3]) {
+                damage::break_bytes(random, &mut bytes, &special);
+            }
+            known = None;
+        }
+        95..=96 => {
+            damage::break_una(random, &mut bytes);
+            label += "una ";
+            known = None;
+        }
+        97..=99 => {
+            bytes = damage::noise(random);
+            label += "noise ";
+            known = None;
+        }
+        _ => {}
+    }
+    Input { label, bytes, segments: known, good }
+}
+
+/// The bytes that mean something under these service characters.
+fn special(style: &Style) -> Vec<u8> {
+    let s = style.service;
+    [s.component, s.element, s.terminator, s.release.unwrap_or(b'?'), s.mark, b'\r', b'\n', b':', b'+', b'?', b'\'']
+        .to_vec()
+}
+
+fn plain_input(random: &mut Random, label: &str, messages: Vec<Vec<Segment>>, good: bool) -> Input {
+    let mut segments = make::envelope(random, messages);
+    if good {
+        make::recount(&mut segments);
+    }
+    let bytes = make::write(random, &segments, &make::PLAIN_STYLE);
+    Input { label: label.to_string(), bytes, segments: Some(segments), good }
+}
+
+/// A message with one DOC that holds so many AJT and so many DLI.
+fn deep_message(adjustments: usize, lines: usize, line_adjustments: usize) -> Vec<Segment> {
+    let mut all = make::many_orders(1);
+    let at = all.len() - 2;
+    let mut inner = vec![Segment::of(76, "PRC+8"), Segment::of(79, "DOC")];
+    for _ in 0..adjustments {
+        inner.extend([Segment::of(88, "AJT"), Segment::of(89, "MOA")]);
+    }
+    for _ in 0..lines {
+        inner.extend([Segment::of(93, "DLI"), Segment::of(94, "MOA")]);
+    }
+    for _ in 0..line_adjustments {
+        inner.extend([Segment::of(101, "AJT"), Segment::of(102, "MOA")]);
+    }
+    all.splice(at..at, inner);
+    make::recount(&mut all);
+    all
+}
+
+/// An interchange of exactly this many bytes: one message, then strays.
+fn of_length(length: usize, una: &[u8], message: &[u8]) -> Vec<u8> {
+    let mut bytes = una.to_vec();
+    bytes.extend(b"UNB+UNOA:3++++R1'");
+    bytes.extend(message);
+    let end = b"UNZ+1+R1'";
+    let room = length - bytes.len() - end.len();
+    // one stray that fills the rest
+    bytes.extend(b"FTX+");
+    bytes.extend(std::iter::repeat(b'x').take(room - 5));
+    bytes.push(b'\'');
+    bytes.extend(end);
+    bytes
+}
+
+/// An interchange whose plain bytes are exactly so many, though it is shorter itself: its data are the
+/// plain service characters.
+fn growing_to(length: usize) -> Vec<u8> {
+    // with these characters : + ? ' are data
+    let mut bytes = b"UNA|*,! ~UNB*UNOA|3****R1~FTX*".to_vec();
+    let written = b"UNB+UNOA:3++++R1'FTX+'UNZ+0+R1'".len();
+    let rest = length - written;
+    bytes.extend(b":+?'".iter().cycle().take(rest / 2));
+    bytes.extend(std::iter::repeat(b'x').take(rest % 2));
+    bytes.extend(b"~UNZ*0*R1~");
+    bytes
+}
+
+/// Inputs at the limits that document 01 names. Those whose label begins with "report" fit payreport.
+pub fn limits(random: &mut Random) -> Vec<Input> {
+    let mut all = Vec::new();
+    let bytes_input =
+        |label: &str, bytes: Vec<u8>| Input { label: label.to_string(), bytes, segments: None, good: false };
+    let good_message = {
+        let segments = make::many_orders(1);
+        make::write(random, &segments, &make::PLAIN_STYLE)
+    };
+
+    // document 01's example
+    all.push(bytes_input(
+        "report example",
+        b"UNB+UNOA:3+A+B+020107:1200+R1'UNH+1+PAYMUL:D:96A:UN'UNT+2+1'UNH+2+INVOIC:D:96A:UN'UNT+2+2'UNZ+2+R1'".to_vec(),
+    ));
+    all.push(bytes_input("report empty", Vec::new()));
+
+    // segments: 9,999 and 10,000, of documents and of payments; 2,000 and 2,001 for payreport
+    for (segments, documents) in [(9_999, true), (10_000, true), (9_999, false), (10_001, false), (9_998, true)] {
+        let message = make::long_message(random, segments, documents);
+        all.push(plain_input(random, &format!("{segments} segments"), vec![message], segments <= 9_999));
+    }
+    for segments in [1_999, 2_000, 2_001] {
+        let message = make::long_message(random, segments, true);
+        all.push(plain_input(random, &format!("report {segments} segments"), vec![message], segments <= 2_000));
+    }
+    // orders: 400 and 401 for payreport, and many
+    for orders in [399, 400, 401] {
+        all.push(plain_input(
+            random,
+            &format!("report {orders} orders"),
+            vec![make::many_orders(orders)],
+            orders <= 400,
+        ));
+    }
+    all.push(plain_input(random, "1110 orders", vec![make::many_orders(1_110)], true));
+    // a count of segments and of messages past every small number
+    all.push(bytes_input(
+        "report 14000 empty segments",
+        [b"UNB+UNOA:3++++R1'UNH+1+PAYMUL:D:96A:UN'" as &[u8], &[b'\''; 14_000], b"UNT+1+1'UNZ+1+R1'"].concat(),
+    ));
+    let mut tiny = b"UNB+UNOA:3++++R1'".to_vec();
+    for _ in 0..4_000 {
+        tiny.extend(b"UNH'UNT'");
+    }
+    tiny.extend(b"UNZ+4000+R1'");
+    all.push(bytes_input("4000 messages", tiny));
+
+    // repeats: AJT 100, DLI 1000, AJT in DLI 10, each at the limit and above
+    for (a, d, l) in [(100, 0, 0), (101, 0, 0), (1, 1_000, 0), (1, 1_001, 0), (100, 1_000, 10), (0, 1, 11), (0, 0, 0)] {
+        let good = a <= 100 && d <= 1_000 && l <= 10;
+        all.push(plain_input(random, &format!("AJT {a}, DLI {d}, AJT {l}"), vec![deep_message(a, d, l)], good));
+    }
+
+    // every row at its limit and one above, where the limit is small; groups both full and as bare as can be
+    for row in chart::CHART {
+        for times in [row.5, row.5 + 1].map(|n| n as usize) {
+            for (sg10, bare) in [(false, false), (false, true), (true, false), (true, true)] {
+                if times <= 11 && !(bare && !chart::is_group(row.0)) {
+                    if let Some(message) = row_at_limit(random, row.0, times, sg10, bare) {
+                        let label = format!("row {} {times} times", row.0);
+                        all.push(plain_input(random, &label, vec![message], false));
+                    }
+                }
+            }
+        }
+    }
+    // each row left out, with an unknown tag, and doubled
+    for sg10 in [false, true] {
+        let full = full_message(random, sg10);
+        for row in chart::CHART {
+            let Some(at) = full.iter().position(|s| s.row == row.0) else { continue };
+            let mut less = full.clone();
+            less.remove(at);
+            make::recount(&mut less);
+            all.push(plain_input(random, &format!("without the first row {}", row.0), vec![less], false));
+            let mut tagged = full.clone();
+            tagged[at].set(0, 0, b"XXX");
+            all.push(plain_input(random, &format!("row {} with an unknown tag", row.0), vec![tagged], false));
+            let mut doubled = full.clone();
+            doubled.insert(at, full[at].clone());
+            make::recount(&mut doubled);
+            all.push(plain_input(random, &format!("row {} doubled", row.0), vec![doubled], false));
+        }
+    }
+
+    // the greatest sums
+    let mut great = make::long_message(random, 9_999, false);
+    for segment in great.iter_mut().filter(|s| s.row == 23 || s.row == 51) {
+        segment.set(1, 1, b"999999999999,999");
+    }
+    all.push(plain_input(random, "greatest sum", vec![great], false));
+    // totals that are right only if a number wraps at 32 bits
+    let mut wraps = make::many_orders(1);
+    wraps[6].set(1, 1, b"0");
+    for segment in wraps.iter_mut().filter(|s| s.row == 51) {
+        segment.set(1, 1, b"4294967,296");
+    }
+    all.push(plain_input(random, "sum past 32 bits", vec![wraps], false));
+
+    // lengths at the limit
+    for length in [MOST_BYTES - 1, MOST_BYTES, MOST_BYTES + 1] {
+        all.push(bytes_input(&format!("{length} bytes"), of_length(length, b"", &good_message)));
+        all.push(bytes_input(&format!("{length} bytes with UNA"), of_length(length, b"UNA:+.? '\r\n", &good_message)));
+    }
+    for length in [crate::report::MOST_INPUT - 1, crate::report::MOST_INPUT, crate::report::MOST_INPUT + 1] {
+        all.push(bytes_input(&format!("report {length} bytes"), of_length(length, b"", &good_message)));
+    }
+    for length in [MOST_BYTES, MOST_BYTES + 1, MOST_BYTES + 2] {
+        all.push(bytes_input(&format!("plain bytes {length}"), growing_to(length)));
+    }
+    all.push(bytes_input("terminators only", vec![b'\''; MOST_BYTES]));
+    all.push(bytes_input("releases only", vec![b'?'; MOST_BYTES]));
+    all.push(bytes_input("an odd number of releases", vec![b'?'; MOST_BYTES - 1]));
+    all.push(bytes_input("a long unclosed message", {
+        let mut bytes = b"UNB+UNOA:3++++R1'UNH+1+PAYMUL:D:96A:UN'".to_vec();
+        while bytes.len() + 9 < MOST_BYTES - 6 {
+            bytes.extend(b"LIN+1'");
+        }
+        bytes.extend(b"UNZ+1+R1'");
+        bytes
+    }));
+    all.push(bytes_input(
+        "a long unfinished segment",
+        [b"UNB+UNOA:3++++R1'UNH+1+PAYMUL:D:96A:UN'".to_vec(), vec![b'x'; 500_000]].concat(),
+    ));
+
+    // every cut of a short interchange, and every UNA byte
+    let short = b"UNA:+.? '\r\nUNB+UNOA:3++++R1'\r\nUNH+1+PAYMUL:D:96A:UN'\r\nUNT+2+1'\r\nUNZ+1+R1'\r\n".to_vec();
+    for cut in 0..=short.len() {
+        all.push(bytes_input("report cut", short[..cut].to_vec()));
+        all.push(bytes_input("report cut from the front", short[cut..].to_vec()));
+    }
+    for at in 0..9 {
+        for byte in [
+            0u8, b'\r', b'\n', 0x1F, b' ', b'!', b'0', b'9', b'A', b'Z', b'a', b'z', b'/', b':', b'@', b'[', b'`',
+            b'{', b'~', 0x7F, 0x80, 0xA0, 0xFF, b',', b'.', b'+', b'?', b'\'',
+        ] {
+            let mut una = short.clone();
+            una[at] = byte;
+            all.push(bytes_input("una byte", una));
+        }
+    }
+    // releases before every byte
+    for byte in 0..=255u8 {
+        let mut bytes = b"UNB+UNOA:3++++R1'UNH+1+PAYMUL:D:96A:UN'FTX+?".to_vec();
+        bytes.push(byte);
+        bytes.extend(b"'?");
+        bytes.push(byte);
+        bytes.extend(b"X+'UNT+4+1'UNZ+1+R1'");
+        all.push(bytes_input("released byte", bytes));
+        let mut bytes = b"UNB+UNOA:3++++R1'UNH+1+PAYMUL:D:96A:UN'FTX+".to_vec();
+        bytes.push(byte);
+        bytes.extend(b"'");
+        bytes.push(byte);
+        bytes.extend(b"'UNT+4+1'UNZ+1+R1'");
+        all.push(bytes_input("bare byte", bytes));
+    }
+    all
+}
+
+/// A message in which every row of the chart that may stand does so, with SG10 or with SG16 in its first
+/// order, as these exclude each other.
+pub fn full_message(random: &mut Random, sg10: bool) -> Vec<Segment> {
+    loop {
+        let profile = Profile { optional: 100, at_limit: 0, orders: 1, payments: 1, odd_text: 0 };
+        let message = make::message(random, profile);
+        let has = |row: u16| message.iter().any(|s| s.row == row);
+        if has(24) && has(32) && has(57) && has(61) && if sg10 { has(47) } else { has(77) && has(79) } {
+            return message;
+        }
+    }
+}
+
+/// A message with one row (a segment or a group) so many times in one place. A bare group holds only what
+/// it must.
+fn row_at_limit(random: &mut Random, row: u16, times: usize, sg10: bool, bare: bool) -> Option<Vec<Segment>> {
+    let mut message = full_message(random, sg10);
+    let first = if chart::is_group(row) { chart::held(row)[0] } else { row };
+    let at = message.iter().position(|s| s.row == first)?;
+    // the groups that a row lies in, itself included
+    let within = |r: u16| -> Vec<u16> {
+        let mut all = vec![r];
+        while let Some(up) = all.last().map(|r| chart::CHART[*r as usize - 1].3).filter(|up| *up != 0) {
+            all.push(up);
+        }
+        all
+    };
+    let end = (at..message.len()).find(|i| !within(message[*i].row).contains(&row)).unwrap_or(message.len());
+    let one_end = (at + 1..end).find(|i| message[*i].row == first).unwrap_or(end);
+    let mut one: Vec<Segment> = message[at..one_end].to_vec();
+    if bare {
+        // a row stays if it and the groups between it and this one are required
+        one.retain(|s| within(s.row).iter().take_while(|r| **r != row).all(|r| chart::required(*r)));
+    }
+    // what repeats already goes, and as many as wanted come in; LIN and SEQ numbers stay as they were, for
+    // only the chart's limits are meant here
+    let many: Vec<Segment> = std::iter::repeat(one).take(times).flatten().collect();
+    message.splice(at..end, many);
+    make::recount(&mut message);
+    Some(message)
+}
+
+/// An interchange of good realistic messages, just below so many bytes.
+pub fn realistic(random: &mut Random, bytes: usize) -> Vec<u8> {
+    let service = Service { mark: b'.', ..crate::syntax::PLAIN };
+    let style = Style { service, una: true, breaks: &[b"\r\n"], needless: 0, empties: 0 };
+    let mut messages: Vec<Vec<Segment>> = Vec::new();
+    let mut length = 200;
+    loop {
+        let message = make::message(random, make::REAL);
+        length += make::write(random, &message, &style).len();
+        if length > bytes && !messages.is_empty() {
+            break;
+        }
+        messages.push(message);
+    }
+    let segments = make::envelope(random, messages);
+    make::write(random, &segments, &style)
+}
+
+/// Small envelopes in every combination: UNA and what may be wrong with it, UNB's version and reference,
+/// how the end looks; then numbers of messages and strays against counts and references of UNZ.
+pub fn envelopes() -> Vec<Vec<u8>> {
+    let mut all = Vec::new();
+    for una in ["", "UNA:+,? '", "UNA:+.? '\r\n", "UNA:+,  '", "\r\n", "UNA:+,?*'"] {
+        for tag in ["UNB", "?UNB", "UNB:X", "UNZ", "", "unb", "UNBX"] {
+            for version in ["3", "4", "", "03", "3:X", "3?"] {
+                for end in [
+                    "'UNZ+0+R'",
+                    "'UNZ+0+R'\r\n",
+                    "'UNZ+0+R' ",
+                    "'UNZ+0+R",
+                    "'",
+                    "",
+                    "'UNZ'",
+                    "'UNZ'UNZ'UNZ'",
+                    "'unz'",
+                    "'UNZ+0+R'?",
+                ] {
+                    all.push(format!("{una}{tag}+UNOA:{version}++++R{end}").into_bytes());
+                }
+            }
+        }
+        for length in 0..=16 {
+            for more in ["", ":X", "++X", "+X"] {
+                let reference = "R".repeat(length);
+                all.push(format!("{una}UNB+A:3++++{reference}{more}'UNZ+0+{reference}'").into_bytes());
+                // released bytes count once
+                let released = "?R".repeat(length);
+                all.push(format!("{una}UNB+A:3++++{released}{more}'UNZ+0+{reference}'").into_bytes());
+            }
+        }
+    }
+    for messages in 0..=3 {
+        for unclosed in [false, true] {
+            for strays in 0..=2 {
+                for count in [
+                    "",
+                    "0",
+                    "1",
+                    "2",
+                    "3",
+                    "4",
+                    "00",
+                    "01",
+                    "03",
+                    "3:X",
+                    " 1",
+                    "18446744073709551617",
+                    "4294967298",
+                    "1000000000000000000000000000000",
+                ] {
+                    for reference in ["R1", "R", "R11", "", "r1", "R1:X", "R?1"] {
+                        // an unclosed message that holds a UNZ, or a closed one; strays stand before the first
+                        let message = if unclosed { "UNH'LIN'UNZ+9+R1'" } else { "UNH+1'LIN'UNT'" };
+                        let stray = ["LIN'", "'", "UNT'"][strays];
+                        let inner = stray.repeat(strays) + &message.repeat(messages);
+                        all.push(format!("UNB+UNOA:3++++R1'{inner}UNZ+{count}+{reference}'").into_bytes());
+                    }
+                }
+            }
+        }
+    }
+    all
+}

@@ -1,0 +1,37 @@
+# Sourced by the gate: what examples/host.c answers for each sample. A sample whose report says OK of every message and closes
+# with 0 is accepted (status 0), any other is refused (status 1); its longer lists and room judge three samples otherwise.
+host_wants() { # SAMPLE without ending -> expected status
+    case $(basename "$1") in
+    refused_14_b) echo 0; return ;;
+    esac
+    if grep -qE ' NO |^OPEN' "$1.txt"; then echo 1; return; fi
+    if grep -qE '^END .* 0$' "$1.txt"; then echo 0; else echo 1; fi
+}
+for edi in samples/*.edi; do
+    name=${edi%.edi}
+    $host "$edi" >"$log/host" 2>"$log/err"
+    got=$?
+    ok=1
+    [ "$got" = "$(host_wants "$name")" ] || ok=0
+    case $(basename "$name") in
+    refused_14 | refused_14_b | open_1) ;;
+    *) # the same numbers in the same order as the report gives, and as many accepted messages
+        want=$(awk '$3 == "NO" { print $4 } $1 == "OPEN" { print $3 } $1 == "END" && $5 != 0 { print $5 }' "$name.txt" | tr '\n' ' ')
+        have=$(sed -n 's/.*refused, number \([0-9]*\):.*/\1/p; s/^Closing: .*number \([0-9]*\):.*/\1/p' "$log/host" | tr '\n' ' ')
+        [ "$want" = "$have" ] || ok=0
+        [ "$(grep -c ' OK ' "$name.txt")" = "$(grep -c '^  accepted:' "$log/host")" ] || ok=0
+        ;;
+    esac
+    if [ "$ok" = 1 ] && [ ! -s "$log/err" ]; then good "host $edi"; else bad "host $edi (status $got)"; cat "$log/host" "$log/err"; fi
+done
+# Rewriting: twice is the same as once, and every message keeps its number and segment.
+for edi in samples/*.edi; do
+    $host --rewrite "$edi" >"$log/once" 2>/dev/null || continue
+    $host --rewrite "$log/once" >"$log/twice" 2>/dev/null
+    $RUN target/bin/payreport <"$log/once" | awk '$3 == "NO" { $6 = "" } { print }' >"$log/after"
+    awk '$3 == "NO" { $6 = "" } { print }' "${edi%.edi}.txt" >"$log/before"
+    case $edi in */open_1.edi) cp "$log/after" "$log/before" ;; esac
+    if cmp -s "$log/once" "$log/twice" && cmp -s "$log/before" "$log/after"; then good "rewrite $edi"; else bad "rewrite $edi"; fi
+done
+$host >/dev/null 2>&1; [ $? = 2 ] && good "host: usage" || bad "host: usage"
+$host samples/none >/dev/null 2>&1; [ $? = 2 ] && good "host: no such file" || bad "host: no such file"
