@@ -55,7 +55,7 @@ static void check_all(work *w)
         twineherald_step step = twineherald_walk(w->bytes, w->length, at, w->rows, LISTS, w->starts, LISTS, w->totals, LISTS);
         if (!step.found)
             break;
-        if (step.number == 0)
+        if (step.report.number == 0)
             w->accepted++;
         at = step.end;
     }

@@ -257,13 +257,13 @@ static void print_refusal(uint32_t number)
 static void print_accepted(const twineherald_step *step, const uint64_t *totals)
 {
     printf("  accepted: ");
-    print_count(step->segments, "segment");
+    print_count(step->report.segments, "segment");
     printf(", ");
-    print_count(step->orders, "order");
+    print_count(step->report.orders, "order");
     printf(", ");
-    print_count(step->payments, "payment");
+    print_count(step->report.payments, "payment");
     printf("\n");
-    for (uint32_t k = 0; k < step->orders; k++)
+    for (uint32_t k = 0; k < step->report.orders; k++)
         printf("    order %" PRIu32 ": %" PRIu64 ".%03" PRIu64 "\n",
                k + 1, totals[k] / 1000, totals[k] % 1000);
 }
@@ -271,18 +271,18 @@ static void print_accepted(const twineherald_step *step, const uint64_t *totals)
 static void print_refused(const twineherald_step *step, slice message, marks m)
 {
     printf("  ");
-    print_refusal(step->number);
-    if (step->segment == 0)
+    print_refusal(step->report.number);
+    if (step->report.segment == 0)
         return;
     printf("    ");
-    if (step->number == TWINEHERALD_BYTE) {
+    if (step->report.number == TWINEHERALD_BYTE) {
         printf("byte ");
-        print_text((slice){message.first + step->offset, 1});
+        print_text((slice){message.first + step->report.offset, 1});
         printf(" in ");
     }
     printf("segment %" PRIu32 ", at byte offset %" PRIu32 " of the message, %zu of the file:\n    ",
-           step->segment, step->offset, (size_t)step->start + step->offset);
-    print_text(segment_of(message, step->segment, m));
+           step->report.segment, step->report.offset, (size_t)step->start + step->report.offset);
+    print_text(segment_of(message, step->report.segment, m));
     printf("\n");
 }
 
@@ -300,16 +300,16 @@ static uint32_t report_messages(slice file, const lists *l)
                                                  l->starts, MOST_SEGMENTS,
                                                  l->totals, MOST_ORDERS);
         if (step.found == 0) {
-            if (step.number != TWINEHERALD_ACCEPTED) {
+            if (step.report.number != TWINEHERALD_ACCEPTED) {
                 printf("The rest of the file is ");
-                print_refusal(step.number);
+                print_refusal(step.report.number);
                 refusals++;
             }
             return refusals;
         }
         printf("Message %" PRIu32 ", at byte offset %" PRIu32 " of the file, %" PRIu32 " bytes long\n",
                place, step.start, step.end - step.start);
-        if (step.number == TWINEHERALD_ACCEPTED) {
+        if (step.report.number == TWINEHERALD_ACCEPTED) {
             print_accepted(&step, l->totals);
         } else {
             print_refused(&step, (slice){file.first + step.start, step.end - step.start}, m);

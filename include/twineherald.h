@@ -70,19 +70,14 @@ typedef struct {
 } twineherald_report;
 
 /* A step of the walk. found is 1 if a message was found, refused or not; it lies from start up to but
- * excluding end, and end is the position to go on from. With found 0 and number 0 no message is left;
- * with found 0 and another number (1, 2, 8 or 4) the walk itself is refused. The rest is the message's
- * report. */
+ * excluding end, end is the position to go on from, and report is the message's. With found 0, start and
+ * end are 0, and report's number tells why: 0, no message is left; 1, 2, 8 or 4, the walk itself is
+ * refused. */
 typedef struct {
     uint32_t found;
     uint32_t start;
     uint32_t end;
-    uint32_t number;
-    uint32_t segment;
-    uint32_t offset;
-    uint32_t segments;
-    uint32_t orders;
-    uint32_t payments;
+    twineherald_report report;
 } twineherald_step;
 
 /* What closing found: number is 0, or 1 to 4 as opening gives it (then messages and strays are 0), or

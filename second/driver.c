@@ -204,18 +204,22 @@ static struct lists take_lists(int place) {
     return lend_lists(r, s, t, place);
 }
 
+static void give_report(twineherald_report report) {
+    give_number(report.number);
+    give_number(report.segment);
+    give_number(report.offset);
+    give_number(report.segments);
+    give_number(report.orders);
+    give_number(report.payments);
+}
+
 static void walk(const uint8_t *bytes, size_t length, size_t at, struct lists lists) {
     twineherald_step step = twineherald_walk(bytes, length, at, lists.rows, lists.r, lists.starts, lists.s, lists.totals, lists.t);
     give_letter('w');
     give_number(step.found);
     give_number(step.start);
     give_number(step.end);
-    give_number(step.number);
-    give_number(step.segment);
-    give_number(step.offset);
-    give_number(step.segments);
-    give_number(step.orders);
-    give_number(step.payments);
+    give_report(step.report);
     give_lists(lists);
 }
 
@@ -243,12 +247,7 @@ static void check(const uint8_t *bytes, size_t length) {
     struct lists lists = take_lists(place);
     twineherald_report report = twineherald_check(head, head_length, message, message_length, lists.rows, lists.r, lists.starts, lists.s, lists.totals, lists.t);
     give_letter('k');
-    give_number(report.number);
-    give_number(report.segment);
-    give_number(report.offset);
-    give_number(report.segments);
-    give_number(report.orders);
-    give_number(report.payments);
+    give_report(report);
     give_lists(lists);
 }
 

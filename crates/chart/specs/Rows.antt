@@ -1,7 +1,7 @@
 -- A row as the code reads it: its columns together.
 use Prim.Native.Nat.{ℕ, _<_}
 use mathlib.Core.Path.{_≡_}
-use Rattle.chart.specs.declared.Row.{Row}
+use Rattle.chart.specs.declared.table.Row.{Row}
 use Rattle.chart.specs.Table.{size}
 use Rattle.chart.specs.Columns.{tagOf, endOf, statusOf, repeatsOf}
 use Rattle.chart.specs.Next.{nextOf}

@@ -7,7 +7,7 @@ use mathlib.Core.List.{List, [], _∷_}
 use lib.Dec.{eqb}
 use borrow.Author.Tests.{eq-eqb, ne-eqb}
 use types.Run.{OneOf}
-use Rattle.chart.specs.declared.Row.{Row}
+use Rattle.chart.specs.declared.table.Row.{Row}
 use Rattle.chart.specs.Machine.{and, owed, pick}
 use Rattle.chart.specs.Table.{size, never, required}
 use Rattle.chart.specs.Columns.{tagOf, endOf, statusOf, repeatsOf, mostOf, reqOf}

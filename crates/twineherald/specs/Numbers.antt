@@ -41,17 +41,7 @@ reportOf (report.Refused f) = refusedOf f
 
 -- a step of the walk: whether a message was found, where it lies, and its report
 abbrev pub stepWith : ℕ → ℕ → ℕ → ReportNumbers → StepNumbers
-stepWith found start end r = record {
-  found = found;
-  start = start % 4294967296;
-  end = end % 4294967296;
-  number = r .number;
-  segment = r .segment;
-  offset = r .offset;
-  segments = r .segments;
-  orders = r .orders;
-  payments = r .payments;
-}
+stepWith found start end r = record { found = found; start = start % 4294967296; end = end % 4294967296; report = r }
 
 abbrev pub stepOf : Walked → StepNumbers
 stepOf (walk.Message a e r) = stepWith 1 a e (reportOf r)

@@ -23,7 +23,7 @@ pub accepted-by : (c : Counts) (a b d : ℕ) → a ≡ c .segments % 4294967296 
 accepted-by c a b d e f g = rw (e, f, g)
 
 pub step-by : (found start end a b : ℕ) (r : ReportNumbers) → a ≡ start % 4294967296 → b ≡ end % 4294967296
-    → record { found = found; start = a; end = b; number = r .number; segment = r .segment; offset = r .offset; segments = r .segments; orders = r .orders; payments = r .payments } ≡ stepWith found start end r
+    → record { found = found; start = a; end = b; report = r } ≡ stepWith found start end r
 step-by found start end a b r e f = rw (e, f)
 
 module _ (w : Report) (x : ReportNumbers) where

@@ -25,12 +25,7 @@ pub struct StepNumbers {
     pub found: u32,
     pub start: u32,
     pub end: u32,
-    pub number: u32,
-    pub segment: u32,
-    pub offset: u32,
-    pub segments: u32,
-    pub orders: u32,
-    pub payments: u32,
+    pub report: ReportNumbers,
 }
 
 #[repr(C)]
@@ -107,12 +102,7 @@ fn step_numbers(found: u32, start: usize, end: usize, r: ReportNumbers) -> StepN
         found,
         start: lent::low32(start),
         end: lent::low32(end),
-        number: r.number,
-        segment: r.segment,
-        offset: r.offset,
-        segments: r.segments,
-        orders: r.orders,
-        payments: r.payments,
+        report: r,
     }
 }
 

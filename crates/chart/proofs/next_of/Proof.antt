@@ -5,7 +5,7 @@ use Rattle.chart.proofs.next_of.Statement.{statement}
 use Rattle.chart.proofs.next_of.Tie as tie
 use Rattle.chart.proofs.next_of.Reads as reads
 use Rattle.chart.proofs.next_of.Lts as lts
-use Rattle.chart.proofs.row_at.Reads as row-at-reads
+use Rattle.chart.proofs.table.row_at.Reads as row-at-reads
 
 row-at-requires : tie.Need-row-at-requires
 row-at-requires c κs = search (row-next, needs)

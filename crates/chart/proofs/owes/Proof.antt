@@ -5,7 +5,7 @@ use Rattle.chart.proofs.owes.Statement.{statement}
 use Rattle.chart.proofs.owes.Tie as tie
 use Rattle.chart.proofs.owes.Reads as reads
 use Rattle.chart.proofs.owes.Lts as lts
-use Rattle.chart.proofs.row_at.Reads as row-at-reads
+use Rattle.chart.proofs.table.row_at.Reads as row-at-reads
 
 row-at-requires : tie.Need-row-at-requires
 row-at-requires c κs = search (row-owes, row-owed, needs)

@@ -5,10 +5,10 @@ use Rattle.chart.specs.Columns.{tagOf, endOf, statusOf, repeatsOf}
 use Rattle.chart.specs.Next.{nextOf}
 use Rattle.chart.specs.Rows.{rowOf}
 use Rattle.chart.specs.RowsLaws.{row-here, row-none}
-use Rattle.chart.proofs.row_at.Statement.{statement}
-use Rattle.chart.proofs.row_at.Tie as tie
-use Rattle.chart.proofs.row_at.Reads as reads
-use Rattle.chart.proofs.row_at.Lts as lts
+use Rattle.chart.proofs.table.row_at.Statement.{statement}
+use Rattle.chart.proofs.table.row_at.Tie as tie
+use Rattle.chart.proofs.table.row_at.Reads as reads
+use Rattle.chart.proofs.table.row_at.Lts as lts
 
 returns : tie.Need-returns
 unfolding rowOf tagOf endOf statusOf repeatsOf nextOf table
