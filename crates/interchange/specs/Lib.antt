@@ -1,2 +1,14 @@
+pub mod Messages
+pub mod Envelope
+pub mod KindLaws
+pub mod FindLaws
+pub mod OpenLaws
+pub mod Opened
+pub mod SurveyLaws
+pub mod CloseLaws
+pub mod Walk
+pub mod WalkLaws
+pub mod WalkTheorems
+pub mod FirstLaws
 pub mod Extent
 pub mod ExtentLaws

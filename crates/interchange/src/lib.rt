@@ -1,6 +1,13 @@
 // The envelope of an interchange, and where its messages lie.
 ghost use Prim.Native.Nat.{ℕ, _≤_, _<_};
+ghost use mathlib.Core.Path.{_≡_};
 ghost use lib.ListN.{length};
+ghost use Rattle.segments.specs.SegmentList.{segmentsFrom};
+ghost use Rattle.interchange.specs.Messages.{tagAt, foundFrom};
+ghost use Rattle.interchange.specs.Envelope.{isReference, isHeader, ended, firstAt, refusal, openedBy, openingOf, closingNumber, closingOf};
+ghost use Rattle.interchange.specs.KindLaws.{isEnd};
+ghost use Rattle.interchange.specs.FindLaws.{endFound};
+ghost use Rattle.interchange.specs.SurveyLaws.{Surveyed, pastAt};
 ghost use Rattle.interchange.specs.Extent.{Within, Short};
 use segments::Segment;
 use service::Characters;
@@ -53,7 +60,9 @@ pub struct Closing {
 }
 
 // A refusal that speaks of the whole interchange.
-pub fn refuse(number: u32) -> Refusal {
+pub fn refuse(number: u32) -> Refusal
+    ensures { λ r. ⌜ r ≡ refusal number ⌝ }
+{
     Refusal {
         number,
         segment: 0,
@@ -61,16 +70,17 @@ pub fn refuse(number: u32) -> Refusal {
     }
 }
 
-// The tag of the segment that begins at `at`, as a code; 0 where no byte is left.
-pub fn tag_at(s: &[u8], at: usize, v: Service) -> u64 {
-    if at < s.len() {
-        return values::code_at(s, at, v);
-    }
-    0
+// The tag of the segment that begins at `at`, as a code.
+pub fn tag_at(s: &[u8], at: usize, v: Service) -> u64
+    ensures { λ r. ⌜ r ≡ tagAt v (now (s .entry)) at ⌝ }
+{
+    values::code_at(s, at, v)
 }
 
 // Whether a length is 1 to 14.
-pub fn is_reference(n: usize) -> bool {
+pub fn is_reference(n: usize) -> bool
+    ensures { λ r. ⌜ r ≡ isReference n ⌝ }
+{
     if n < 1 {
         return false;
     }
@@ -78,7 +88,9 @@ pub fn is_reference(n: usize) -> bool {
 }
 
 // Whether the segment at `at` is a UNB of syntax version 3 with a control reference.
-fn is_header(s: &[u8], at: usize, v: Service) -> bool {
+fn is_header(s: &[u8], at: usize, v: Service) -> bool
+    ensures { λ r. ⌜ r ≡ isHeader v (now (s .entry)) at ⌝ }
+{
     if tag_at(s, at, v) == UNB {
         if values::code_in(s, at, v, 1, 1) == 0x0133 {
             let p = parts::component(s, at, v, 5, 0);
@@ -90,7 +102,9 @@ fn is_header(s: &[u8], at: usize, v: Service) -> bool {
 }
 
 // Whether the last of the segments from `at` on is a finished UNZ.
-fn ends_with_unz(s: &[u8], at: usize, v: Service) -> bool {
+fn ends_with_unz(s: &[u8], at: usize, v: Service) -> bool
+    ensures { λ r. ⌜ r ≡ ended v (now (s .entry)) (segmentsFrom v (now (s .entry)) at) ⌝ }
+{
     let mut i = at;
     let mut last = false;
     loop {
@@ -111,7 +125,9 @@ fn ends_with_unz(s: &[u8], at: usize, v: Service) -> bool {
 }
 
 // Where the first segment begins: after UNA and its breaks, or at the first byte.
-fn first_segment(s: &[u8], una: usize) -> usize {
+fn first_segment(s: &[u8], una: usize) -> usize
+    ensures { λ r. ⌜ r ≡ firstAt (now (s .entry)) una ⌝ }
+{
     if una == 0 {
         return 0;
     }
@@ -120,6 +136,7 @@ fn first_segment(s: &[u8], una: usize) -> usize {
 
 fn open_with(s: &[u8], v: Service, una: usize) -> Opening
     requires { ⌜ length (now s) ≤ 1048576 ⌝ }
+    ensures { λ r. ⌜ r ≡ openedBy v (now (s .entry)) (firstAt (now (s .entry)) una) ⌝ }
     ensures { λ r. ⌜ Short (now (s .entry)) r ⌝ }
 {
     let first = first_segment(s, una);
@@ -134,6 +151,7 @@ fn open_with(s: &[u8], v: Service, una: usize) -> Opening
 
 // Whether the bytes are an interchange that opens.
 pub fn open(s: &[u8]) -> Opening
+    ensures { λ r. ⌜ r ≡ openingOf (now (s .entry)) ⌝ }
     ensures { λ r. ⌜ Short (now (s .entry)) r ⌝ }
 {
     if MOST < s.len() {
@@ -147,7 +165,9 @@ pub fn open(s: &[u8]) -> Opening
 }
 
 // Whether a UNZ whose segment the next one would follow at `next` is the end: nothing but breaks stands there.
-fn is_end(s: &[u8], tag: u64, next: usize) -> bool {
+fn is_end(s: &[u8], tag: u64, next: usize) -> bool
+    ensures { λ r. ⌜ r ≡ isEnd (now (s .entry)) tag next ⌝ }
+{
     if tag == UNZ {
         return s.len() <= next;
     }
@@ -157,6 +177,7 @@ fn is_end(s: &[u8], tag: u64, next: usize) -> bool {
 // The end of the message that begins at `start`, sought from the segment at `from` on.
 fn find_end(s: &[u8], start: usize, from: usize, v: Service) -> Found
     requires { ⌜ (start < from) × (start < length (now s)) ⌝ }
+    ensures { λ r. ⌜ r ≡ endFound v (now (s .entry)) start (segmentsFrom v (now (s .entry)) from) ⌝ }
     ensures { λ r. ⌜ Within (now (s .entry)) start r ⌝ }
 {
     let mut i = from;
@@ -188,6 +209,7 @@ fn find_end(s: &[u8], start: usize, from: usize, v: Service) -> Found
 
 // The next message from the position `at` on, which is read as though a terminator stood just before.
 pub fn find(s: &[u8], at: usize, v: Service) -> Found
+    ensures { λ r. ⌜ r ≡ foundFrom v (now (s .entry)) at ⌝ }
     ensures { λ r. ⌜ Within (now (s .entry)) at r ⌝ }
 {
     let mut i = segments::skip_breaks(s, at);
@@ -211,7 +233,10 @@ pub fn find(s: &[u8], at: usize, v: Service) -> Found
 }
 
 // The messages and the strays among the segments from `at` on, up to the end UNZ.
-fn survey_of(s: &[u8], at: usize, v: Service) -> Survey {
+fn survey_of(s: &[u8], at: usize, v: Service) -> Survey
+    requires { ⌜ at ≤ length (now s) ⌝ }
+    ensures { λ r. ⌜ Surveyed v (now (s .entry)) (segmentsFrom v (now (s .entry)) at) r ⌝ }
+{
     let mut i = at;
     let mut inside = false;
     let mut messages: u64 = 0;
@@ -246,7 +271,9 @@ fn survey_of(s: &[u8], at: usize, v: Service) -> Survey {
 }
 
 // What the UNZ at `end` says against what was found, and against the UNB at `first`.
-fn closing_number(s: &[u8], first: usize, found: Survey, v: Service) -> u32 {
+fn closing_number(s: &[u8], first: usize, found: Survey, v: Service) -> u32
+    ensures { λ r. ⌜ r ≡ closingNumber v (now (s .entry)) first (found .end) (found .messages) (found .strays) ⌝ }
+{
     let end = found.end;
     if values::number_is(s, end, v, 1, 0, found.messages) {
         let p = parts::component(s, first, v, 5, 0);
@@ -263,7 +290,9 @@ fn closing_number(s: &[u8], first: usize, found: Survey, v: Service) -> u32 {
 }
 
 // Counts the messages and the strays, and compares the UNZ with them and with the UNB.
-pub fn close(s: &[u8]) -> Closing {
+pub fn close(s: &[u8]) -> Closing
+    ensures { λ r. ⌜ r ≡ closingOf (now (s .entry)) ⌝ }
+{
     let o = open(s);
     match o {
         Opening::Refused(r) => Closing {
@@ -284,7 +313,9 @@ pub fn close(s: &[u8]) -> Closing {
 }
 
 // Where the segment after the one at `at` begins, or the end of the bytes.
-pub fn past(s: &[u8], at: usize, v: Service) -> usize {
+pub fn past(s: &[u8], at: usize, v: Service) -> usize
+    ensures { λ r. ⌜ r ≡ pastAt v (now (s .entry)) at ⌝ }
+{
     let g = segments::segment_at(s, at, v);
     match g {
         Segment::Finished(_, next) => next,

@@ -1,4 +1,4 @@
--- Bytes to segments.
+-- Where a segment ends and where breaks end, as the loops find them.
 use Prim.Native.Nat.{ℕ, suc}
 use mathlib.Core.List.{List, [], _∷_}
 use mathlib.Core.Bool.{Bool, true, false}
@@ -8,19 +8,7 @@ use Rattle.segments.specs.declared.Class.{Class}
 use Rattle.segments.specs.declared.Class.the-variants.{Plain, Comp, Elem, Rel, Term}
 use Rattle.segments.specs.declared.End.{End}
 use Rattle.segments.specs.declared.End.the-variants.{At, None}
-
--- `a` where the test holds, else `b`
-abbrev pub if : {A : Type 0} → Bool → A → A → A
-if true a b = a
-if false a b = b
-
--- what an unreleased byte is
-unfoldable pub classOf : Service → ℕ → Class
-classOf v b =
-    if (eqb b (v .terminator)) Term
-    (if (eqb b (v .element)) Elem
-    (if (eqb b (v .component)) Comp
-    (if (v .releases) (if (eqb b (v .release)) Rel Plain) Plain)))
+unfoldable pub use Rattle.segments.specs.Classes.{if, classOf}
 
 -- by what the next byte is: the segment ends at i, or goes on after a release, or goes on
 abbrev pub endBy : Class → ℕ → End → End → End

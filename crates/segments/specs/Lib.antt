@@ -1,6 +1,15 @@
+pub mod Classes
+pub mod SegmentList
 pub mod Bytes
 pub mod BytesLaws
 pub mod Segments
 pub mod SegmentsLaws
 pub mod Sync
 pub mod SyncLaws
+pub mod ResyncLaws
+pub mod ListLaws
+pub mod PartLaws
+pub mod FitLaws
+pub mod Ends
+pub mod EndsLaws
+pub mod ClosedLaws

@@ -26,7 +26,7 @@ module _ (v : Service) (s : List ℕ) (i : ℕ) where
   segment-nothing h = simp (le-ltb _ _ h)
 
   module _ (h : i < length s) (k : End) (c : k ≡ endFrom v false i (drop i s)) where
-    segment-by : segmentBy s k ≡ segmentAt v i s
+    pub segment-by : segmentBy s k ≡ segmentAt v i s
     unfolding segmentAt
     segment-by = rw (c) (simp (lt-ltb _ _ h))
 

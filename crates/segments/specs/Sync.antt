@@ -1,119 +1,25 @@
--- The segments of a text as spans, and how they are found again after any damage: from the second terminator on, what stood before does not matter.
--- Assumes nothing.
-use Prim.Native.Nat.{ℕ, suc, zero, _+_}
-use native.Mathlib.Nat.{zero-add, add-zero, add-suc, suc-add}
-use mathlib.Core.Path.{_≡_, refl, sym, _∙_, ap, subst}
-use mathlib.Core.Logic.{_⊎_, inl, inr, ⊎-elim}
-use mathlib.Core.List.{List, [], _∷_, _++_, map, append-assoc}
+-- How a reader that lost its place finds the segments again: what the theorems of `ResyncLaws` speak of.
+use Prim.Native.Nat.{ℕ, _+_}
+use mathlib.Core.Path.{_≡_}
+use mathlib.Core.List.{List, [], _∷_}
 use mathlib.Core.Bool.{Bool, true, false}
-use lib.ListN.{length, length-append}
-use lib.Dec.{T, eqb}
-use borrow.Author.Tests.{eqb-true}
 use Rattle.service.specs.declared.Service.{Service}
 use Rattle.segments.specs.declared.Class.{Class}
 use Rattle.segments.specs.declared.Class.the-variants.{Plain, Comp, Elem, Rel, Term}
-use Rattle.segments.specs.Bytes.{if, classOf}
+use Rattle.segments.specs.Classes.{classOf}
+use Rattle.segments.specs.SegmentList.{Piece, finished, unfinished, Mode, after}
 
--- between segments, inside one, or inside one and after a release
-pub data Mode : Type 0 where
-  gap inside held : Mode
-
-abbrev pub isBreak : ℕ → Bool
-isBreak b = if (eqb b 13) true (eqb b 10)
-
-abbrev pub mode : Class → Mode
-mode Plain = inside
-mode Comp = inside
-mode Elem = inside
-mode Rel = held
-mode Term = gap
-
-abbrev pub ended : Class → Bool
-ended Plain = false
-ended Comp = false
-ended Elem = false
-ended Rel = false
-ended Term = true
-
--- the mode after a byte, whether it ends a segment, and where the segment that it stands in begins
-abbrev pub after : Service → Mode → ℕ → Mode
-after v gap b = if (isBreak b) gap (mode (classOf v b))
-after v inside b = mode (classOf v b)
-after v held b = inside
-
-abbrev pub ends : Service → Mode → ℕ → Bool
-ends v gap b = if (isBreak b) false (ended (classOf v b))
-ends v inside b = ended (classOf v b)
-ends v held b = false
-
-abbrev pub startIn : Mode → ℕ → ℕ → ℕ
-startIn gap st i = i
-startIn inside st i = st
-startIn held st i = st
-
-abbrev pub emit : Bool → ℕ → ℕ → List (ℕ × ℕ) → List (ℕ × ℕ)
-emit true a b l = (a, b) ∷ l
-emit false a b l = l
-
--- the finished segments of the bytes, the first of which stands at i: from their first byte to their terminator
-unfoldable pub spans : Service → Mode → ℕ → ℕ → List ℕ → List (ℕ × ℕ)
-spans v m st i [] = []
-spans v m st i (b ∷ s) = emit (ends v m b) (startIn m st i) i (spans v (after v m b) (startIn m st i) (suc i) s)
-
+-- where the byte after a text stands: `gap` where the text leaves nothing open
 unfoldable pub run : Service → Mode → List ℕ → Mode
 run v m [] = m
 run v m (b ∷ s) = run v (after v m b) s
 
-abbrev pub shift : ℕ → ℕ × ℕ → ℕ × ℕ
-shift k p = (k + p .0, k + p .1)
+-- the same segment, k bytes further on
+abbrev pub shift : ℕ → Piece → Piece
+shift k (finished a b) = finished (k + a) (k + b)
+shift k (unfinished a b) = unfinished (k + a) (k + b)
 
--- ---- two texts one after the other
-emit-append : (t : Bool) (a b : ℕ) (l r : List (ℕ × ℕ)) → emit t a b (l ++ r) ≡ emit t a b l ++ r
-emit-append true a b l r = refl
-emit-append false a b l r = refl
-
-pub gap-start : (v : Service) (st st′ i : ℕ) (s : List ℕ) → spans v gap st i s ≡ spans v gap st′ i s
-unfolding spans
-gap-start v st st′ i [] = refl
-gap-start v st st′ i (b ∷ s) = refl
-
-pub run-append : (v : Service) (m : Mode) (a b : List ℕ) → run v m (a ++ b) ≡ run v (run v m a) b
-unfolding run
-run-append v m [] b = refl
-run-append v m (x ∷ a) b = run-append v (after v m x) a b
-
-pub spans-append : (v : Service) (m : Mode) (st i : ℕ) (a b : List ℕ) → run v m a ≡ gap → spans v m st i (a ++ b) ≡ spans v m st i a ++ spans v gap 0 (i + length a) b
-unfolding spans run
-spans-append v m st i [] b e = rw (e, add-zero) (gap-start v st 0 i b)
-spans-append v m st i (x ∷ a) b e =
-    rw (add-suc, ← suc-add)
-    (ap (emit (ends v m x) (startIn m st i) i) (spans-append v (after v m x) (startIn m st i) (suc i) a b e)
-    ∙ emit-append (ends v m x) _ _ _ _)
-
--- ---- a text further on
-shift-start : (m : Mode) (k st i : ℕ) → startIn m (k + st) (k + i) ≡ k + startIn m st i
-shift-start gap k st i = refl
-shift-start inside k st i = refl
-shift-start held k st i = refl
-
-shift-emit : (t : Bool) (k a b : ℕ) (l : List (ℕ × ℕ)) → emit t (k + a) (k + b) (map (shift k) l) ≡ map (shift k) (emit t a b l)
-shift-emit true k a b l = refl
-shift-emit false k a b l = refl
-
-pub spans-shift : (v : Service) (m : Mode) (k st i : ℕ) (s : List ℕ) → spans v m (k + st) (k + i) s ≡ map (shift k) (spans v m st i s)
-unfolding spans
-spans-shift v m k st i [] = refl
-spans-shift v m k st i (b ∷ s) =
-    rw (shift-start m k st i, ← add-suc)
-    (ap (emit (ends v m b) _ _) (spans-shift v (after v m b) k (startIn m st i) (suc i) s) ∙ shift-emit (ends v m b) k _ _ _)
-
--- ---- after a terminator, bytes that hold back nothing, and a terminator
--- whether the next byte is released
-abbrev pub loose : Mode → Bool
-loose gap = false
-loose inside = false
-loose held = true
-
+-- whether the byte after one is released, by that byte's class
 abbrev pub relBy : Class → Bool
 relBy Plain = false
 relBy Comp = false
@@ -125,79 +31,12 @@ abbrev pub relNext : Service → Bool → ℕ → Bool
 relNext v true b = false
 relNext v false b = relBy (classOf v b)
 
+-- whether the byte after a text is released, the first of which is released or not
 unfoldable pub relAfter : Service → Bool → List ℕ → Bool
 relAfter v r [] = r
 relAfter v r (b ∷ s) = relAfter v (relNext v r b) s
 
--- the breaks are no service characters
+-- the breaks are no service characters, as with any fit ones
 pub record Sound (v : Service) : Type 0 where
   pub cr : classOf v 13 ≡ Plain
   pub lf : classOf v 10 ≡ Plain
-
-moved : (v : Service) (k : ℕ) (s : List ℕ) → spans v gap 0 (0 + k) s ≡ map (shift k) (spans v gap 0 0 s)
-moved v k s = rw (zero-add k) (rw (add-zero k) at (gap-start v 0 (k + 0) (k + 0) s) ∙ rw (add-zero k) at (spans-shift v gap k 0 0 s))
-
--- two tests that a byte is a break
-break-is : (b : ℕ) (t u : Bool) → eqb b 13 ≡ t → eqb b 10 ≡ u → if t true u ≡ true → (b ≡ 13) ⊎ (b ≡ 10)
-break-is b true u p q e = inl (eqb-true b 13 p)
-break-is b false true p q e = inr (eqb-true b 10 q)
-break-is b false false p q e = absurd (subst T (sym e) tt)
-
-rel-mode : (k : Class) → relBy k ≡ loose (mode k)
-rel-mode Plain = refl
-rel-mode Comp = refl
-rel-mode Elem = refl
-rel-mode Rel = refl
-rel-mode Term = refl
-
-module _ (v : Service) (ok : Sound v) where
-  rel-gap : (b : ℕ) (t : Bool) → isBreak b ≡ t → relBy (classOf v b) ≡ loose (if t gap (mode (classOf v b)))
-  rel-gap b true e = ⊎-elim (λ (q : b ≡ 13). rw (q, ok .cr)) (λ (q : b ≡ 10). rw (q, ok .lf)) (break-is b (eqb b 13) (eqb b 10) refl refl e)
-  rel-gap b false e = rel-mode (classOf v b)
-
-  loose-next : (m : Mode) (b : ℕ) → relNext v (loose m) b ≡ loose (after v m b)
-  loose-next gap b = rel-gap b (isBreak b) refl
-  loose-next inside b = rel-mode (classOf v b)
-  loose-next held b = refl
-
-  loose-run : (m : Mode) (s : List ℕ) → relAfter v (loose m) s ≡ loose (run v m s)
-  unfolding relAfter run
-  loose-run m [] = refl
-  loose-run m (b ∷ s) = ap (λ (r : Bool). relAfter v r s) (loose-next m b) ∙ loose-run (after v m b) s
-
-  module _ (t : ℕ) (c : classOf v t ≡ Term) (n : isBreak t ≡ false) where
-    -- a terminator leaves nothing released; where nothing is released it ends a segment
-    term-loose : (m : Mode) → loose (after v m t) ≡ false
-    term-loose gap = simp (n, c)
-    term-loose inside = simp c
-    term-loose held = refl
-
-    term-gap : (m : Mode) → loose m ≡ false → after v m t ≡ gap
-    term-gap gap e = simp (n, c)
-    term-gap inside e = simp c
-    term-gap held e = absurd (subst T e tt)
-
-    -- whatever was read before
-    pub settles : (m : Mode) (p u : List ℕ) → relAfter v false u ≡ false → run v m (p ++ (t ∷ u) ++ t ∷ []) ≡ gap
-    unfolding run
-    settles m p u e =
-        run-append v m (p ++ (t ∷ u)) (t ∷ [])
-        ∙ term-gap (run v m (p ++ (t ∷ u)))
-        (ap loose (run-append v m p (t ∷ u)) ∙ sym (loose-run (after v (run v m p) t) u) ∙ ap (λ (r : Bool). relAfter v r u) (term-loose (run v m p)) ∙ e)
-
-    -- the segments after the second terminator are those of the rest, moved to where it stands
-    pub resync : (p u rest : List ℕ) → relAfter v false u ≡ false
-        → let x : List ℕ = p ++ (t ∷ u) ++ t ∷ [] in spans v gap 0 0 (x ++ rest) ≡ spans v gap 0 0 x ++ map (shift (length x)) (spans v gap 0 0 rest)
-    resync p u rest e =
-        let x : List ℕ = p ++ (t ∷ u) ++ t ∷ [] in
-        spans-append v gap 0 0 x rest (settles gap p u e)
-        ∙ ap (λ (l : List (ℕ × ℕ)). spans v gap 0 0 x ++ l) (moved v (length x) rest)
-
-  -- the same for two beginnings: what follows the second terminator is read alike, at its own place
-  module _ (t : ℕ) (c : classOf v t ≡ Term) (n : isBreak t ≡ false) where
-    pub alike : (a d d′ u rest : List ℕ) → relAfter v false u ≡ false
-        → (l l′ : List (ℕ × ℕ)) × (k k′ : ℕ) × (spans v gap 0 0 (a ++ d ++ (t ∷ u) ++ t ∷ [] ++ rest) ≡ l ++ map (shift k) (spans v gap 0 0 rest)) × (spans v gap 0 0 (a ++ d′ ++ (t ∷ u) ++ t ∷ [] ++ rest) ≡ l′ ++ map (shift k′) (spans v gap 0 0 rest))
-    alike a d d′ u rest e =
-        let x : List ℕ = a ++ d ++ (t ∷ u) ++ t ∷ [] in
-        let x′ : List ℕ = a ++ d′ ++ (t ∷ u) ++ t ∷ [] in
-        (spans v gap 0 0 x, spans v gap 0 0 x′, length x, length x′, resync t c n (a ++ d) u rest e, resync t c n (a ++ d′) u rest e)

@@ -1,4 +1,9 @@
 // The service characters of an interchange: those that UNA names, or the plain ones.
+ghost use mathlib.Core.Path.{_≡_};
+ghost use mathlib.Core.List.{[], _∷_};
+ghost use mathlib.Core.Bool.{not, _&&_, _||_};
+ghost use lib.ListN.{getD};
+ghost use Rattle.service.specs.Service.{plainService, isAlphanumeric, serves, isMark, isNone, among, distinct, namedBy, beginsUna, charactersOf};
 
 pub struct Service {
     pub component: u8,
@@ -15,7 +20,9 @@ pub enum Characters {
 }
 
 // The characters of an interchange without UNA.
-pub fn plain() -> Service {
+pub fn plain() -> Service
+    ensures { λ r. ⌜ r ≡ plainService ⌝ }
+{
     Service {
         component: b':',
         element: b'+',
@@ -26,7 +33,9 @@ pub fn plain() -> Service {
 }
 
 // A letter or a digit.
-fn is_alphanumeric(b: u8) -> bool {
+fn is_alphanumeric(b: u8) -> bool
+    ensures { λ r. ⌜ r ≡ isAlphanumeric b ⌝ }
+{
     if b < 48 {
         return false;
     }
@@ -46,7 +55,9 @@ fn is_alphanumeric(b: u8) -> bool {
 }
 
 // Whether a byte lies in 0x21 to 0x7E and is no letter or digit.
-fn may_serve(b: u8) -> bool {
+fn may_serve(b: u8) -> bool
+    ensures { λ r. ⌜ r ≡ serves b ⌝ }
+{
     if b < 0x21 {
         return false;
     }
@@ -60,7 +71,9 @@ fn may_serve(b: u8) -> bool {
 }
 
 // A comma or a dot.
-fn is_mark(b: u8) -> bool {
+fn is_mark(b: u8) -> bool
+    ensures { λ r. ⌜ r ≡ isMark b ⌝ }
+{
     if b == b',' {
         return true;
     }
@@ -68,7 +81,9 @@ fn is_mark(b: u8) -> bool {
 }
 
 // Whether the byte is none of the four.
-fn is_none_of(b: u8, w: u8, x: u8, y: u8, z: u8) -> bool {
+fn is_none_of(b: u8, w: u8, x: u8, y: u8, z: u8) -> bool
+    ensures { λ r. ⌜ r ≡ not (among b (w ∷ x ∷ y ∷ z ∷ [])) ⌝ }
+{
     if b == w {
         return false;
     }
@@ -82,7 +97,9 @@ fn is_none_of(b: u8, w: u8, x: u8, y: u8, z: u8) -> bool {
 }
 
 // Whether five bytes all differ.
-fn all_differ(a: u8, b: u8, c: u8, d: u8, e: u8) -> bool {
+fn all_differ(a: u8, b: u8, c: u8, d: u8, e: u8) -> bool
+    ensures { λ r. ⌜ r ≡ distinct (a ∷ b ∷ c ∷ d ∷ e ∷ []) ⌝ }
+{
     if is_none_of(a, b, c, d, e) {
         if is_none_of(b, c, d, e, a) {
             if c == d {
@@ -98,7 +115,9 @@ fn all_differ(a: u8, b: u8, c: u8, d: u8, e: u8) -> bool {
 }
 
 // Whether each of the characters is fit by itself.
-fn each_fits(v: Service) -> bool {
+fn each_fits(v: Service) -> bool
+    ensures { λ r. ⌜ r ≡ (serves (v .component) && (serves (v .element) && (serves (v .terminator) && (not (v .releases) || serves (v .release))))) ⌝ }
+{
     if may_serve(v.component) {
         if may_serve(v.element) {
             if may_serve(v.terminator) {
@@ -113,7 +132,9 @@ fn each_fits(v: Service) -> bool {
 }
 
 // The characters that the six bytes after UNA name. A space for the release means that there is none.
-fn named(s: [u8; 6]) -> Characters {
+fn named(s: [u8; 6]) -> Characters
+    ensures { λ r. ⌜ r ≡ namedBy (getD s 0 0) (getD s 1 0) (getD s 2 0) (getD s 3 0) (getD s 4 0) (getD s 5 0) ⌝ }
+{
     let v = Service {
         component: s[0],
         element: s[1],
@@ -134,7 +155,9 @@ fn named(s: [u8; 6]) -> Characters {
 }
 
 // Whether the bytes begin with UNA.
-fn begins_with_una(s: &[u8]) -> bool {
+fn begins_with_una(s: &[u8]) -> bool
+    ensures { λ r. ⌜ r ≡ beginsUna (now (s .entry)) ⌝ }
+{
     if s.len() < 3 {
         return false;
     }
@@ -147,7 +170,9 @@ fn begins_with_una(s: &[u8]) -> bool {
 }
 
 // The service characters of an interchange.
-pub fn characters_of(s: &[u8]) -> Characters {
+pub fn characters_of(s: &[u8]) -> Characters
+    ensures { λ r. ⌜ r ≡ charactersOf (now (s .entry)) ⌝ }
+{
     if begins_with_una(s) {
         if s.len() < 9 {
             return Characters::Unfit;

@@ -1,25 +1,23 @@
--- Values from a position, and what they write.
-use Prim.Native.Nat.{ℕ, suc, zero, _+_, _*_, _-_, _/_}
+-- What a value writes, as the loops find it.
+use Prim.Native.Nat.{ℕ, suc, zero, _+_, _*_, _-_, _/_, _%_}
 use mathlib.Core.List.{List, [], _∷_}
 use mathlib.Core.Bool.{Bool, true, false}
 use lib.ListN.{drop}
-use lib.Dec.{eqb, ltb}
+use lib.Dec.{eqb, ltb, leb}
 use Rattle.service.specs.declared.Service.{Service}
-use Rattle.segments.specs.Bytes.{if}
+use Rattle.segments.specs.Classes.{if}
 use Rattle.parts.specs.declared.Token.{Token}
 use Rattle.parts.specs.declared.Token.the-variants as token
-use Rattle.parts.specs.Lex.{lex, valueOf, tokenAt, elements, valueAt}
+use Rattle.parts.specs.Lex.{tokenAt}
 use Rattle.values.specs.declared.Next.{Next}
 use Rattle.values.specs.declared.Next.the-variants as next
 use Rattle.values.specs.declared.Amount.{Amount}
 use Rattle.values.specs.declared.Amount.the-variants as amount
 use Rattle.values.specs.declared.Number.{Number}
 use Rattle.values.specs.declared.Number.the-variants as number
+unfoldable pub use Rattle.values.specs.Numbers.{valueFrom, valueIn}
 
--- the value that begins at i
-abbrev pub valueFrom : Service → ℕ → List ℕ → List ℕ
-valueFrom v i s = valueOf (lex v false (drop i s))
-
+-- the next byte of the value at i, by the token there
 abbrev pub nextBy : Token → Next
 nextBy (token.Byte b n) = next.Byte b n
 nextBy (token.Comp n) = next.Done
@@ -36,7 +34,6 @@ sameList (x ∷ xs) [] = false
 sameList (x ∷ xs) (y ∷ ys) = if (eqb x y) (sameList xs ys) false
 
 -- the number that digits write after `acc`, `count` digits of which some were read: no leading zero, below 10^19
-
 unfoldable pub digits : ℕ → ℕ → List ℕ → Number
 digits count acc [] = if (ltb 0 count) (number.Of acc) number.Not
 digits count acc (b ∷ s) =
@@ -85,6 +82,12 @@ codeFrom code (b ∷ l) = if (ltb 72057594037927935 code) 0 (codeFrom (code * 25
 abbrev pub codeOf : List ℕ → ℕ
 codeOf l = codeFrom 1 l
 
--- the value of component c of element e of the segment that begins at i
-abbrev pub valueIn : Service → ℕ → List ℕ → ℕ → ℕ → List ℕ
-valueIn v i s e c = valueAt (elements (lex v false (drop i s))) e c
+-- ---- whether a code is that of three capitals
+unfoldable pub isCapital : ℕ → Bool
+isCapital b = if (ltb b 65) false (leb b 90)
+
+unfoldable pub isCapitals : ℕ → Bool
+isCapitals code =
+    if (eqb (code / 16777216) 1)
+    (if (isCapital (code / 65536 % 256)) (if (isCapital (code / 256 % 256)) (isCapital (code % 256)) false) false)
+    false

@@ -2,7 +2,7 @@
 ghost use mathlib.Core.Path.{_≡_};
 ghost use Prim.Native.Nat.{_+_, _≤_};
 ghost use lib.ListN.{length, take, drop};
-ghost use Rattle.values.specs.Values.{valueFrom, nextAt, sameList, numberOf, isMark, fraction, amountOf, codeOf, isNumber, valueIn};
+ghost use Rattle.values.specs.Values.{valueFrom, nextAt, sameList, numberOf, isMark, fraction, amountOf, codeOf, isNumber, isCapital, isCapitals, valueIn};
 use parts::Token;
 use service::Service;
 
@@ -252,7 +252,9 @@ fn is_mark(b: u8) -> bool
 }
 
 // A capital, A to Z.
-fn is_capital(b: u64) -> bool {
+fn is_capital(b: u64) -> bool
+    ensures { λ r. ⌜ r ≡ isCapital b ⌝ }
+{
     if b < 65 {
         return false;
     }
@@ -260,7 +262,9 @@ fn is_capital(b: u64) -> bool {
 }
 
 // Whether a code is that of three capitals.
-pub fn is_capitals(code: u64) -> bool {
+pub fn is_capitals(code: u64) -> bool
+    ensures { λ r. ⌜ r ≡ isCapitals code ⌝ }
+{
     if code / 16777216 == 1 {
         if is_capital(code / 65536 % 256) {
             if is_capital(code / 256 % 256) {

@@ -1,0 +1,4 @@
+pub mod Service
+pub mod ServiceLaws
+pub mod FitLaws
+pub mod Unique
