@@ -102,13 +102,13 @@ at-zero-by v b s cr lf w e false true p q =
     absurd (break-tag v b s (ap (classOf v) x ∙ lf) h g w e)
 at-zero-by v b s cr lf w e false false p q = refl
 
-at-zero : (v : Service) {s : List ℕ} → classOf v 13 ≡ Plain → classOf v 10 ≡ Plain → Bytes s → tagAt v s 0 ≡ UNB → pastBreaks 0 s ≡ 0
+pub at-zero : (v : Service) {s : List ℕ} → classOf v 13 ≡ Plain → classOf v 10 ≡ Plain → Bytes s → tagAt v s 0 ≡ UNB → pastBreaks 0 s ≡ 0
 unfolding pastBreaks
 at-zero v cr lf empty e = refl
 at-zero v cr lf (byte b s h w) e = at-zero-by v b s cr lf w e (eqb b 13) (eqb b 10) refl refl
 
 module _ (s : List ℕ) (w : Bytes s) (v : Service) (first : ℕ) (o : openingOf s ≡ Opens v first) where
-  first-settled : pastBreaks first (drop first s) ≡ first
+  pub first-settled : pastBreaks first (drop first s) ≡ first
   unfolding firstAt
   first-settled =
       let f = opened s v first o in

@@ -10,5 +10,11 @@ pub mod Walk
 pub mod WalkLaws
 pub mod WalkTheorems
 pub mod FirstLaws
+pub mod Damage
+pub mod DamageLaws
+pub mod BeforeLaws
+pub mod DamageTheorem
+pub mod ZeroTheorems
+pub mod ReopenTheorem
 pub mod Extent
 pub mod ExtentLaws

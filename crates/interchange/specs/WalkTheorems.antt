@@ -66,7 +66,7 @@ header-by v s first h w (segment.Finished t n) c =
 header-by v s first h w segment.Unfinished c = absurd (cut-list first (length s) (segmentsFrom v s first) (list-unfinished v s first segment.Unfinished c refl) w)
 header-by v s first h w segment.Nothing c = absurd (subst T (sym (ap (headed v s) (sym (list-nothing v s first segment.Nothing c refl)) ∙ h)) tt)
 
-unb-other : (v : Service) (s : List ℕ) (i t : ℕ) (l : List Piece) → tagAt v s i ≡ UNB → messagesOf v s (finished i t ∷ l) ≡ messagesOf v s l
+pub unb-other : (v : Service) (s : List ℕ) (i t : ℕ) (l : List Piece) → tagAt v s i ≡ UNB → messagesOf v s (finished i t ∷ l) ≡ messagesOf v s l
 unfolding messagesOf
 unb-other v s i t l e = rw e refl
 
@@ -76,7 +76,7 @@ module _ (s : List ℕ) (v : Service) (first : ℕ) (o : openingOf s ≡ Opens v
       let f = opened s v first o in
       header-by v s first (f .heads) (no-cut v s false (tidy-pieces v _ first first (drop first s)) (f .closes)) (segmentAt v first s) refl
 
-  body-is : segmentsFrom v s (header .next) ≡ bodyOf v s first
+  pub body-is : segmentsFrom v s (header .next) ≡ bodyOf v s first
   body-is = ap afterFirst (sym (header .here))
 
   -- walking on from the end of the UNB visits exactly the messages, in order, and ends

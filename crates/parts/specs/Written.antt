@@ -17,6 +17,7 @@ pub data Writes (v : Service) : List Tok → List ℕ → Type 0 where
   component : (b : ℕ) (t : List Tok) (s : List ℕ) → classOf v b ≡ Comp → Writes v t s → Writes v (comp ∷ t) (b ∷ s)
   element : (b : ℕ) (t : List Tok) (s : List ℕ) → classOf v b ≡ Elem → Writes v t s → Writes v (elem ∷ t) (b ∷ s)
 
+-- strange bytes: outside 0x20..0x7E and 0xA0..0xFF
 abbrev pub keep : Bool → ℕ → List ℕ → List ℕ
 keep true b l = b ∷ l
 keep false b l = l

@@ -13,3 +13,4 @@ pub mod FitLaws
 pub mod Ends
 pub mod EndsLaws
 pub mod ClosedLaws
+pub mod WholeLaws

@@ -17,6 +17,7 @@ pub data Piece : Type 0 where
 pub data Mode : Type 0 where
   gap first inside held : Mode
 
+-- where the byte after one that is not released stands, by that byte's class; and whether that byte ends its segment
 abbrev pub mode : Class → Mode
 mode Plain = inside
 mode Comp = inside
@@ -53,6 +54,7 @@ startIn first st i = i
 startIn inside st i = st
 startIn held st i = st
 
+-- a segment that ended, put before those that follow
 abbrev pub emit : Bool → ℕ → ℕ → List Piece → List Piece
 emit true a b l = finished a b ∷ l
 emit false a b l = l

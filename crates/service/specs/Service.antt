@@ -59,10 +59,12 @@ fit c e m r p t =
 abbrev pub serviceOf : ℕ → ℕ → ℕ → ℕ → Service
 serviceOf c e r t = record { component = c; element = e; release = r; releases = not (isNone r); terminator = t }
 
+-- the first where the test holds, else the second
 abbrev pub pick : Bool → Characters → Characters → Characters
 pick true a b = a
 pick false a b = b
 
+-- "service characters break the rule above" (number 2) where they are not fit; UNA and they are nine bytes
 unfoldable pub namedBy : ℕ → ℕ → ℕ → ℕ → ℕ → ℕ → Characters
 namedBy c e m r p t = pick (fit c e m r p t) (Fit (serviceOf c e r t) 9) Unfit
 

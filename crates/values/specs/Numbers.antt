@@ -24,7 +24,7 @@ pub data Digits : List ℕ → Type 0 where
 abbrev pub Unled : List ℕ → Type 0
 Unled l = getD l 0 0 ≡ 48 → length l ≡ 1
 
--- the number that digits write: each digit ten times for each digit after it
+-- the number that digits write: each digit times ten for every digit after it
 unfoldable pub worth : List ℕ → ℕ
 worth [] = 0
 worth (b ∷ l) = (b - 48) * 10 ^ length l + worth l

@@ -27,6 +27,7 @@ nextBy token.Stop = next.Done
 unfoldable pub nextAt : Service → ℕ → List ℕ → Next
 nextAt v i s = nextBy (tokenAt v i (drop i s))
 
+-- whether two values are the same
 unfoldable pub sameList : List ℕ → List ℕ → Bool
 sameList [] [] = true
 sameList [] (y ∷ ys) = false
@@ -57,6 +58,7 @@ fraction w sum (b ∷ s) =
     (if (ltb 57 b) amount.Not
     (if (eqb w 0) amount.Not (fraction (w / 10) (sum + (b - 48) * w) s)))
 
+-- the whole part, as `digits`, at most twelve of them, and then nothing or a mark and a fraction
 unfoldable pub units : ℕ → ℕ → List ℕ → Amount
 units count acc [] = if (ltb 0 count) (amount.Of (acc * 1000)) amount.Not
 units count acc (b ∷ s) =
