@@ -1,4 +1,4 @@
-# Sourced by the gate: what examples/host.c answers for each sample. A sample whose report says OK of every message and closes
+# Sourced by the gate: what examples/host.c answers for each sample. $host is the command, $how says which build it is. A sample whose report says OK of every message and closes
 # with 0 is accepted (status 0), any other is refused (status 1); its longer lists and room judge three samples otherwise.
 host_wants() { # SAMPLE without ending -> expected status
     case $(basename "$1") in
@@ -22,7 +22,7 @@ for edi in samples/*.edi; do
         [ "$(grep -c ' OK ' "$name.txt")" = "$(grep -c '^  accepted:' "$log/host")" ] || ok=0
         ;;
     esac
-    if [ "$ok" = 1 ] && [ ! -s "$log/err" ]; then good "host $edi"; else bad "host $edi (status $got)"; cat "$log/host" "$log/err"; fi
+    if [ "$ok" = 1 ] && [ ! -s "$log/err" ]; then good "host $edi, $how"; else bad "host $edi, $how (status $got)"; cat "$log/host" "$log/err"; fi
 done
 # Rewriting: twice is the same as once, and every message keeps its number and segment.
 for edi in samples/*.edi; do
@@ -31,7 +31,7 @@ for edi in samples/*.edi; do
     $RUN target/bin/payreport <"$log/once" | awk '$3 == "NO" { $6 = "" } { print }' >"$log/after"
     awk '$3 == "NO" { $6 = "" } { print }' "${edi%.edi}.txt" >"$log/before"
     case $edi in */open_1.edi) cp "$log/after" "$log/before" ;; esac
-    if cmp -s "$log/once" "$log/twice" && cmp -s "$log/before" "$log/after"; then good "rewrite $edi"; else bad "rewrite $edi"; fi
+    if cmp -s "$log/once" "$log/twice" && cmp -s "$log/before" "$log/after"; then good "rewrite $edi, $how"; else bad "rewrite $edi, $how"; fi
 done
-$host >/dev/null 2>&1; [ $? = 2 ] && good "host: usage" || bad "host: usage"
-$host samples/none >/dev/null 2>&1; [ $? = 2 ] && good "host: no such file" || bad "host: no such file"
+$host >/dev/null 2>&1; [ $? = 2 ] && good "host: usage, $how" || bad "host: usage, $how"
+$host samples/none >/dev/null 2>&1; [ $? = 2 ] && good "host: no such file, $how" || bad "host: no such file, $how"

@@ -4,8 +4,7 @@ kit=$(dirname "$(dirname "$(rt doc)")")
 if [ "$(uname -m)" = x86_64 ]; then
     CC=gcc RUN='' WATCH='-fsanitize=address,undefined'
 else
-    # The kit has an emulator for other machines. The address sanitizer does not run under it; the guard pages of the
-    # comparison's driver stand in for it there.
+    # The kit has an emulator for other machines. The address sanitizer does not run under it.
     CC=x86_64-linux-gnu-gcc WATCH='-fsanitize=undefined'
     RUN="$kit/on/$(uname -m)/toolchain/bin/qemu-x86_64 -L /usr/x86_64-linux-gnu"
     if ! command -v "$CC" >/dev/null 2>&1; then

@@ -9,7 +9,7 @@ use Rattle.segments.specs.Segments.{segmentAt}
 use Rattle.chart.specs.Chart.{Reading, FailsAt, FirstMisfit}
 use Rattle.chart.specs.Machine.{only, run, step, stepRows, free, freeRows, placed, stuck, choose, takes, owed, rowsBy}
 use Rattle.chart.specs.Table.{UNH, BGM, DTM, LIN, RFF, MOA, FII, SEQ, CNT, UNT, chart, table, rowOver, inside}
-use Rattle.chart.specs.Columns.{tagOf, endOf, firstOf}
+use Rattle.chart.specs.Columns.{tagOf, parentOf, endOf, firstOf}
 use Rattle.chart.specs.Next.{nextOf, chain, chainFrom, findIn, nextRow, rowsOf}
 use Rattle.chart.specs.Tags.{startsIn, startsFrom, startsOf}
 use Rattle.chart.proofs.Plain.{placed-one, stuck-fails}
@@ -25,7 +25,7 @@ unfolding chart table rowOver inside run step stepRows free freeRows choose take
 least-run = refl
 
 least-rows : rowsOf least ≡ 1 ∷ 2 ∷ 3 ∷ 17 ∷ 18 ∷ 19 ∷ 23 ∷ 28 ∷ 50 ∷ 51 ∷ 53 ∷ 108 ∷ 112 ∷ []
-unfolding rowsBy nextRow chain chainFrom findIn nextOf tagOf table firstOf endOf
+unfolding rowsBy nextRow chain chainFrom findIn nextOf tagOf parentOf table firstOf endOf
 least-rows = refl
 
 pub least-reading : Reading chart least (1 ∷ 2 ∷ 3 ∷ 17 ∷ 18 ∷ 19 ∷ 23 ∷ 28 ∷ 50 ∷ 51 ∷ 53 ∷ 108 ∷ 112 ∷ [])

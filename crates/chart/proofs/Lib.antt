@@ -2,6 +2,7 @@ pub mod Answers
 pub mod Cases
 pub mod Guide
 pub mod Nest
+pub mod Lines
 pub mod Plain
 pub mod Stream
 pub mod Theorems

@@ -11,7 +11,7 @@ use lib.ListN.{length, getD, take}
 use Rattle.service.specs.declared.Service.{Service}
 use borrow.Author.Tests.{eqb-true, eqb-false, ltb-true, lt-ltb, le-ltb, eq-eqb, ne-eqb}
 use Rattle.chart.specs.Machine.{pick, and, rowsBy, rowAfter}
-use Rattle.chart.specs.Columns.{tagOf, endOf, firstOf}
+use Rattle.chart.specs.Columns.{tagOf, parentOf, endOf, firstOf}
 use Rattle.chart.specs.Table.{size, chart, table}
 use Rattle.chart.specs.Next.{nextOf, chainFrom, chain, findIn, nextRow, rowsOf}
 use Rattle.chart.proofs.Theory.{and-left, and-right}
@@ -47,7 +47,7 @@ pick-bound false p q = q
 
 -- THE COMPUTED TESTS
 chains : T (all-to size (λ r. eqbL (chain r) (r ∷ chain (nextOf r))))
-unfolding all-to eqbL chain chainFrom nextOf
+unfolding all-to eqbL chain chainFrom nextOf parentOf endOf table
 chains = tt
 
 -- the answer is a row of the table, or size

@@ -15,7 +15,7 @@ use Rattle.chart.specs.declared.Went.the-variants.{To, Stuck}
 use Rattle.chart.specs.Chart.{Rows, none, row, Placement, Reading, FailsAt}
 use Rattle.chart.specs.Machine.{only, labels, closing, lacking, done, frame, placed, stuck, run, choose, takes, owed, step, free, freeRows, mayRows, may, doubt, det, good, detK, goodK, agreeRows, agree, guides, guidesK}
 use Rattle.chart.specs.Table.{UNT, size, chart, table, rowOver, inside}
-use Rattle.chart.specs.Columns.{tagOf, endOf, firstOf}
+use Rattle.chart.specs.Columns.{tagOf, parentOf, endOf, firstOf}
 use Rattle.chart.specs.Next.{nextOf, chain, chainFrom, findIn, nextRow, rowsOf}
 use Rattle.chart.specs.Tags.{tagsOf}
 use Rattle.chart.specs.Cursor.{CursorIs, Stands}
@@ -34,7 +34,7 @@ unfolding chart table rowOver inside doubt det detK good goodK may mayRows takes
 chart-fine = (tt, tt)
 
 pub chart-guided : Guided nextRow 0 (only chart)
-unfolding chart table rowOver inside guides guidesK agree agreeRows nextRow chain chainFrom findIn nextOf tagOf firstOf endOf
+unfolding chart table rowOver inside guides guidesK agree agreeRows nextRow chain chainFrom findIn nextOf tagOf firstOf endOf parentOf
 chart-guided = record { near = tt; far = tt }
 
 -- a message's last segment is its UNT, and no other is

@@ -7,6 +7,8 @@ use lib.Dec.{ltb, eqb}
 use lib.ListN.{getD}
 use Rattle.chart.specs.Chart.{Rows, none, row}
 use Rattle.chart.specs.Machine.{pick}
+use Rattle.paymul.specs.Lines.{endT}
+unfoldable pub use Rattle.paymul.specs.Lines.{lines, linesBy}
 use Rattle.chart.specs.Table.{Entry, entry, table, size, required, never}
 
 abbrev pub tagIn : Entry → ℕ
@@ -20,10 +22,6 @@ statusIn (entry tag parent status repeats) = status
 
 abbrev pub repeatsIn : Entry → ℕ
 repeatsIn (entry tag parent status repeats) = repeats
-
--- past the last row inside each row
-abbrev pub endT : List ℕ
-endT = 113 ∷ 2 ∷ 3 ∷ 4 ∷ 5 ∷ 8 ∷ 7 ∷ 8 ∷ 12 ∷ 10 ∷ 11 ∷ 12 ∷ 16 ∷ 14 ∷ 15 ∷ 16 ∷ 108 ∷ 18 ∷ 19 ∷ 20 ∷ 21 ∷ 22 ∷ 27 ∷ 24 ∷ 25 ∷ 26 ∷ 27 ∷ 31 ∷ 29 ∷ 30 ∷ 31 ∷ 35 ∷ 33 ∷ 34 ∷ 35 ∷ 39 ∷ 37 ∷ 38 ∷ 39 ∷ 46 ∷ 41 ∷ 42 ∷ 43 ∷ 44 ∷ 45 ∷ 46 ∷ 49 ∷ 48 ∷ 49 ∷ 108 ∷ 51 ∷ 52 ∷ 53 ∷ 54 ∷ 55 ∷ 56 ∷ 60 ∷ 58 ∷ 59 ∷ 60 ∷ 64 ∷ 62 ∷ 63 ∷ 64 ∷ 68 ∷ 66 ∷ 67 ∷ 68 ∷ 75 ∷ 70 ∷ 71 ∷ 72 ∷ 73 ∷ 74 ∷ 75 ∷ 108 ∷ 77 ∷ 78 ∷ 105 ∷ 80 ∷ 81 ∷ 82 ∷ 83 ∷ 84 ∷ 87 ∷ 86 ∷ 87 ∷ 92 ∷ 89 ∷ 90 ∷ 91 ∷ 92 ∷ 105 ∷ 94 ∷ 95 ∷ 96 ∷ 97 ∷ 100 ∷ 99 ∷ 100 ∷ 105 ∷ 102 ∷ 103 ∷ 104 ∷ 105 ∷ 108 ∷ 107 ∷ 108 ∷ 109 ∷ 112 ∷ 111 ∷ 112 ∷ 113 ∷ []
 
 unfoldable pub tagOf : ℕ → ℕ
 tagOf r = getD (map tagIn table) r 0

@@ -9,5 +9,3 @@ pub mod Placing
 pub mod Table
 pub mod Tags
 pub mod TagsLaws
-pub mod Rows
-pub mod RowsLaws

@@ -1,4 +1,4 @@
-// The PAYMUL chart as a constant table, one row per segment and group, and placing a message's segments on it.
+// Placing a message's segments on the chart.
 ghost use mathlib.Core.Path.{_≡_};
 ghost use Prim.Native.Nat.{_<_};
 ghost use Rattle.chart.specs.Machine.{owed, takes as taken};
@@ -6,30 +6,33 @@ ghost use Rattle.chart.specs.Placing.{RowDone, RowsDone};
 ghost use Rattle.chart.specs.Cursor.{CursorIs, Stepped};
 ghost use Rattle.chart.specs.Answer.{Answers};
 ghost use Rattle.chart.specs.Next.{nextOf, nextRow};
-ghost use Rattle.chart.specs.Columns.{tagOf, endOf, reqOf, mostOf, firstOf, RowIs, Some};
+ghost use Rattle.chart.specs.Columns.{lines, tagOf, parentOf, endOf, reqOf, mostOf, firstOf, RowIs, Some};
 ghost use Rattle.chart.specs.Table.{size};
-
-mod table;
-
+pub use paymul::CNT;
+use paymul::COLUMNS;
+use paymul::END;
+use paymul::HUNDREDS;
+pub use paymul::LIN;
+use paymul::NEVER;
+use paymul::ONES;
+pub use paymul::ORDER_CUX;
+pub use paymul::ORDER_FII;
+pub use paymul::ORDER_MOA;
+pub use paymul::ORDER_NAD;
+pub use paymul::ORDER_PRC;
+use paymul::PARENT;
+pub use paymul::PAYMENT_DOC;
+pub use paymul::PAYMENT_FII;
+pub use paymul::PAYMENT_FTX;
+pub use paymul::PAYMENT_MOA;
+pub use paymul::PAYMENT_NAD;
+pub use paymul::PAYMENT_PRC;
+use paymul::REQUIRED;
+pub use paymul::ROWS;
+pub use paymul::SEQ;
+use paymul::STATUS;
 use segments::Segment;
 use service::Service;
-pub use table::CNT;
-pub use table::LIN;
-use table::NEVER;
-pub use table::ORDER_CUX;
-pub use table::ORDER_FII;
-pub use table::ORDER_MOA;
-pub use table::ORDER_NAD;
-pub use table::ORDER_PRC;
-pub use table::PAYMENT_DOC;
-pub use table::PAYMENT_FII;
-pub use table::PAYMENT_FTX;
-pub use table::PAYMENT_MOA;
-pub use table::PAYMENT_NAD;
-pub use table::PAYMENT_PRC;
-use table::REQUIRED;
-pub use table::ROWS;
-pub use table::SEQ;
 
 // A place in a message: where a segment begins, and its tag as a code; past the last segment the tag is 0.
 pub struct Cursor {
@@ -74,61 +77,78 @@ pub fn step(m: &[u8], v: Service, c: Cursor) -> Cursor
     }
 }
 
-fn tag_of(r: usize) -> u64
-    requires { ⌜ r < size ⌝ }
+// The tag of a row, as a code.
+fn tag_of(chart: &[[u8; COLUMNS]; ROWS], r: usize) -> u64
+    requires { ⌜ (now chart ≡ lines) × (r < size) ⌝ }
     ensures { λ x. ⌜ x ≡ tagOf r ⌝ }
 {
-    let x = table::row_at(r);
-    x.tag
+    let a = chart[r][0] as u64;
+    let b = chart[r][1] as u64;
+    let c = chart[r][2] as u64;
+    ((256 + a) * 256 + b) * 256 + c
 }
 
-fn end_of(r: usize) -> usize
-    requires { ⌜ r < size ⌝ }
+fn parent_of(chart: &[[u8; COLUMNS]; ROWS], r: usize) -> usize
+    requires { ⌜ (now chart ≡ lines) × (r < size) ⌝ }
+    ensures { λ x. ⌜ x ≡ parentOf r ⌝ }
+{
+    chart[r][PARENT] as usize
+}
+
+fn end_of(chart: &[[u8; COLUMNS]; ROWS], r: usize) -> usize
+    requires { ⌜ (now chart ≡ lines) × (r < size) ⌝ }
     ensures { λ x. ⌜ x ≡ endOf r ⌝ }
 {
-    let x = table::row_at(r);
-    x.end
+    chart[r][END] as usize
 }
 
 // How often a row may come: never, or its repeats.
-fn most_of(r: usize) -> usize
-    requires { ⌜ r < size ⌝ }
+fn most_of(chart: &[[u8; COLUMNS]; ROWS], r: usize) -> usize
+    requires { ⌜ (now chart ≡ lines) × (r < size) ⌝ }
     ensures { λ x. ⌜ x ≡ mostOf r ⌝ }
 {
-    let x = table::row_at(r);
-    if x.status == NEVER { 0 } else { x.repeats }
+    if chart[r][STATUS] == NEVER {
+        return 0;
+    }
+    chart[r][HUNDREDS] as usize * 100 + chart[r][ONES] as usize
 }
 
 // The row of the first segment of an occurrence of a row.
-fn first_of(r: usize) -> usize
-    requires { ⌜ r < size ⌝ }
+fn first_of(chart: &[[u8; COLUMNS]; ROWS], r: usize) -> usize
+    requires { ⌜ (now chart ≡ lines) × (r < size) ⌝ }
     ensures { λ x. ⌜ x ≡ firstOf r ⌝ }
 {
-    let end = end_of(r);
+    let end = end_of(chart, r);
     if r + 1 < end { r + 1 } else { r }
 }
 
 // Whether a row is required and has not come.
-fn owes(r: usize, times: usize) -> bool
-    requires { ⌜ r < size ⌝ }
+fn owes(chart: &[[u8; COLUMNS]; ROWS], r: usize, times: usize) -> bool
+    requires { ⌜ (now chart ≡ lines) × (r < size) ⌝ }
     ensures { λ x. ⌜ x ≡ owed (reqOf r) times ⌝ }
 {
-    let x = table::row_at(r);
     if times == 0 {
-        return x.status == REQUIRED;
+        return chart[r][STATUS] == REQUIRED;
     }
     false
 }
 
 // The rows from `lo` up to but excluding `hi`, side by side.
-fn place_rows(m: &[u8], v: Service, lo: usize, hi: usize, from: Cursor) -> Went
-    requires { ⌜ Some lo hi ⌝ }
+fn place_rows(
+    m: &[u8],
+    v: Service,
+    chart: &[[u8; COLUMNS]; ROWS],
+    lo: usize,
+    hi: usize,
+    from: Cursor,
+) -> Went
+    requires { ⌜ (now chart ≡ lines) × Some lo hi ⌝ }
     ensures { λ x. ⌜ RowsDone v (now (m .entry)) lo hi from x ⌝ }
 {
     let mut r = lo;
     let mut c = from;
     while r < hi {
-        let w = place_occurrences(m, v, r, c);
+        let w = place_occurrences(m, v, chart, r, c);
         match w {
             Went::To(d) => {
                 c = d;
@@ -137,7 +157,7 @@ fn place_rows(m: &[u8], v: Service, lo: usize, hi: usize, from: Cursor) -> Went
                 return Went::Stuck(at);
             }
         }
-        r = end_of(r);
+        r = end_of(chart, r);
     }
     Went::To(c)
 }
@@ -153,19 +173,25 @@ fn takes(c: Cursor, tag: u64, times: usize, most: usize) -> bool
 }
 
 // The occurrences of the row `r`: each its first segment and then its other rows.
-fn place_occurrences(m: &[u8], v: Service, r: usize, from: Cursor) -> Went
-    requires { ⌜ RowIs r ⌝ }
+fn place_occurrences(
+    m: &[u8],
+    v: Service,
+    chart: &[[u8; COLUMNS]; ROWS],
+    r: usize,
+    from: Cursor,
+) -> Went
+    requires { ⌜ (now chart ≡ lines) × RowIs r ⌝ }
     ensures { λ x. ⌜ RowDone v (now (m .entry)) r from x ⌝ }
 {
-    let tag = tag_of(r);
-    let most = most_of(r);
-    let end = end_of(r);
-    let first = first_of(r);
+    let tag = tag_of(chart, r);
+    let most = most_of(chart, r);
+    let end = end_of(chart, r);
+    let first = first_of(chart, r);
     let mut times: usize = 0;
     let mut c = from;
     while takes(c, tag, times, most) {
         let next = times + 1;
-        let w = place_rows(m, v, first + 1, end, step(m, v, c));
+        let w = place_rows(m, v, chart, first + 1, end, step(m, v, c));
         match w {
             Went::To(d) => {
                 c = d;
@@ -176,7 +202,7 @@ fn place_occurrences(m: &[u8], v: Service, r: usize, from: Cursor) -> Went
         }
         times = next;
     }
-    if owes(r, times) {
+    if owes(chart, r, times) {
         return Went::Stuck(c.at);
     }
     Went::To(c)
@@ -187,7 +213,8 @@ pub fn place(m: &[u8], v: Service) -> Placed
     ensures { λ x. ⌜ Answers v (now (m .entry)) x ⌝ }
 {
     let c = cursor_at(m, 0, v);
-    let w = place_rows(m, v, 0, ROWS, c);
+    let chart = paymul::chart();
+    let w = place_rows(m, v, &chart, 0, ROWS, c);
     match w {
         Went::To(d) => {
             if d.at < m.len() {
@@ -199,24 +226,32 @@ pub fn place(m: &[u8], v: Service) -> Placed
     }
 }
 
-fn next_of(r: usize) -> usize
-    requires { ⌜ r < size ⌝ }
+// The row to try after a row: the one beside it, or after the last of a group the group again.
+fn next_of(chart: &[[u8; COLUMNS]; ROWS], r: usize) -> usize
+    requires { ⌜ (now chart ≡ lines) × (r < size) ⌝ }
     ensures { λ x. ⌜ x ≡ nextOf r ⌝ }
 {
-    let x = table::row_at(r);
-    x.next
+    let end = end_of(chart, r);
+    let parent = parent_of(chart, r);
+    if end < ROWS {
+        if parent_of(chart, end) == parent {
+            return end;
+        }
+    }
+    parent
 }
 
 // The row of a segment with the tag, where the segment before it stands at the row `prev` (0 before the first); ROWS where there is none.
 pub fn next_row(prev: usize, tag: u64) -> usize
     ensures { λ x. ⌜ x ≡ nextRow prev tag ⌝ }
 {
+    let chart = paymul::chart();
     let mut r = prev;
     while r < ROWS {
-        if tag_of(r) == tag {
-            return first_of(r);
+        if tag_of(&chart, r) == tag {
+            return first_of(&chart, r);
         }
-        r = next_of(r);
+        r = next_of(&chart, r);
     }
     ROWS
 }

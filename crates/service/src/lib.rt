@@ -71,7 +71,7 @@ fn may_serve(b: u8) -> bool
 }
 
 // A comma or a dot.
-fn is_mark(b: u8) -> bool
+pub fn is_mark(b: u8) -> bool
     ensures { λ r. ⌜ r ≡ isMark b ⌝ }
 {
     if b == b',' {

@@ -5,6 +5,7 @@ use mathlib.Core.Bool.{Bool, true, false}
 use lib.ListN.{drop}
 use lib.Dec.{eqb, ltb, leb}
 use Rattle.service.specs.declared.Service.{Service}
+use Rattle.service.specs.Service.{isMark}
 use Rattle.segments.specs.Classes.{if}
 use Rattle.parts.specs.declared.Token.{Token}
 use Rattle.parts.specs.declared.Token.the-variants as token
@@ -15,6 +16,8 @@ use Rattle.values.specs.declared.Amount.{Amount}
 use Rattle.values.specs.declared.Amount.the-variants as amount
 use Rattle.values.specs.declared.Number.{Number}
 use Rattle.values.specs.declared.Number.the-variants as number
+use Rattle.values.specs.declared.Whole.{Whole}
+use Rattle.values.specs.declared.Whole.the-variants as whole
 unfoldable pub use Rattle.values.specs.Numbers.{valueFrom, valueIn}
 
 -- the next byte of the value at i, by the token there
@@ -47,8 +50,39 @@ unfoldable pub numberOf : List ℕ → Number
 numberOf s = digits 0 0 s
 
 -- ---- amounts, in thousandths
-unfoldable pub isMark : ℕ → Bool
-isMark b = if (eqb b 44) true (eqb b 46)
+-- the number that `acc` and then the digit b write, as a turn of `digits`: no leading zero, at most twelve digits
+unfoldable pub oneMore : ℕ → ℕ → ℕ → Number
+oneMore count acc b =
+    if (ltb b 48) number.Not
+    (if (ltb 57 b) number.Not
+    (if (ltb 99999999999 acc) number.Not
+    (if (ltb 0 count) (if (eqb acc 0) number.Not (number.Of (acc * 10 + (b - 48)))) (number.Of (acc * 10 + (b - 48))))))
+
+-- a whole part: its units where it ends the value, its units and the bytes left where a mark comes after it, or nothing
+pub data Part : Type 0 where
+  ends : ℕ → Part
+  left : ℕ → List ℕ → Part
+  nothing : Part
+
+-- the whole part by one more digit: nothing where there is none
+abbrev pub onward : Number → (ℕ → Part) → Part
+onward (number.Of n) f = f n
+onward number.Not f = nothing
+
+-- the whole part that digits write after `acc`, and then the end or a mark
+unfoldable pub units : ℕ → ℕ → List ℕ → Part
+units count acc [] = if (ltb 0 count) (ends acc) nothing
+units count acc (b ∷ s) = if (isMark b) (if (ltb 0 count) (left acc s) nothing) (onward (oneMore count acc b) (λ (n : ℕ). units 1 n s))
+
+-- the whole part of a value
+abbrev pub wholeOf : List ℕ → Part
+wholeOf s = units 0 0 s
+
+-- the part that an answer of `whole_at` stands for: the bytes left are the value from the place
+abbrev pub partOf : Service → List ℕ → Whole → Part
+partOf v s (whole.Ends u) = ends u
+partOf v s (whole.Marked u to) = left u (valueFrom v to s)
+partOf v s whole.Not = nothing
 
 -- digits that weigh w, w / 10, .. and add to `sum`: at least one, none where w is 0
 unfoldable pub fraction : ℕ → ℕ → List ℕ → Amount
@@ -58,18 +92,20 @@ fraction w sum (b ∷ s) =
     (if (ltb 57 b) amount.Not
     (if (eqb w 0) amount.Not (fraction (w / 10) (sum + (b - 48) * w) s)))
 
--- the whole part, as `digits`, at most twelve of them, and then nothing or a mark and a fraction
-unfoldable pub units : ℕ → ℕ → List ℕ → Amount
-units count acc [] = if (ltb 0 count) (amount.Of (acc * 1000)) amount.Not
-units count acc (b ∷ s) =
-    if (isMark b) (if (ltb 0 count) (fraction 100 (acc * 1000) s) amount.Not)
-    (if (ltb b 48) amount.Not
-    (if (ltb 57 b) amount.Not
-    (if (ltb 99999999999 acc) amount.Not
-    (if (ltb 0 count) (if (eqb acc 0) amount.Not (units 1 (acc * 10 + (b - 48)) s)) (units 1 (acc * 10 + (b - 48)) s)))))
+-- units and the thousandths after their mark
+abbrev pub together : ℕ → Amount → Amount
+together u (amount.Of n) = amount.Of (u * 1000 + n)
+together u amount.Not = amount.Not
 
+-- the amount of a whole part and what is left
+abbrev pub amountBy : Part → Amount
+amountBy (ends u) = amount.Of (u * 1000)
+amountBy (left u l) = together u (fraction 100 0 l)
+amountBy nothing = amount.Not
+
+-- the thousandths that a value writes
 abbrev pub amountOf : List ℕ → Amount
-amountOf s = units 0 0 s
+amountOf s = amountBy (wholeOf s)
 
 -- whether a number read is n
 abbrev pub isNumber : Number → ℕ → Bool

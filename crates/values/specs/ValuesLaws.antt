@@ -1,17 +1,12 @@
 -- The next byte of a value, and one turn of each loop over a value. Assumes nothing.
-use Prim.Native.Nat.{ℕ, suc, zero, _+_, _*_, _-_, _^_, _≤_, _<_}
-use native.Mathlib.Numerals.{add-one}
-use native.Mathlib.Decide.{decLe}
+use Prim.Native.Nat.{ℕ, _+_, _*_, _-_, _≤_, _<_}
 use native.Mathlib.Omega.{arith}
 use mathlib.Core.Path.{_≡_, refl, sym, _∙_, ap}
 use mathlib.Core.List.{List, [], _∷_}
 use mathlib.Core.Bool.{Bool, true, false}
-use lib.ListN.{length, getD, drop, drop-of-length-le}
-use lib.Seq.{drop-cons}
-use lib.Dec.{eqb, ltb, leb}
-use borrow.Author.Tests.{eq-eqb, ne-eqb, lt-ltb, le-ltb, le-leb, lt-leb}
-use mir.Val.{Fits}
-use mir.Syntax.{w64}
+use lib.ListN.{length, drop}
+use lib.Dec.{eqb}
+use borrow.Author.Tests.{eq-eqb, ne-eqb, lt-ltb, le-ltb}
 use Rattle.service.specs.declared.Service.{Service}
 use Rattle.segments.specs.Bytes.{if}
 use Rattle.parts.specs.declared.Token.{Token}
@@ -65,6 +60,9 @@ module _ (v : Service) (s : List ℕ) (i : ℕ) (k : Next) (c : k ≡ nextAt v i
   pub reads-done : k ≡ next.Done → NextReads v s i next.Done
   reads-done e = rw e at (next-reads v s i k c)
 
+  pub next-later : (b n : ℕ) → k ≡ next.Byte b n → i < n
+  next-later b n e = reads-on b n e .1
+
   pub less-next : (b n : ℕ) → k ≡ next.Byte b n → length s - n < length s - i
   less-next b n e = let w = reads-on b n e in omega arith
 
@@ -102,11 +100,8 @@ module _ (x at n : ℕ) (v : Service) (s : List ℕ) (i : ℕ) (inv : x ≡ n + 
   pub len-on : (b m : ℕ) → k ≡ next.Byte b m → x ≡ n + 1 + length (valueFrom v m s)
   len-on b m e = let w = ap length (reads-on v s i k c b m e .0) in omega arith
 
-pub len-fits : (at n : ℕ) (v : Service) (s : List ℕ) (i : ℕ) → n + at ≤ i → (k : Next) → k ≡ nextAt v i s → (b m : ℕ) → k ≡ next.Byte b m → length s < 2 ^ 64 → Fits w64 (n + 1)
-len-fits at n v s i h k c b m e g = let w = reads-on v s i k c b m e in omega arith
-
-pub len-more : (at n : ℕ) (v : Service) (s : List ℕ) (i : ℕ) → n + at ≤ i → (k : Next) → k ≡ nextAt v i s → (b m : ℕ) → k ≡ next.Byte b m → n + 1 + at ≤ m
-len-more at n v s i h k c b m e = let w = reads-on v s i k c b m e in omega arith
+pub len-below : (at n : ℕ) (v : Service) (s : List ℕ) (i : ℕ) → n + at ≤ i → (k : Next) → k ≡ nextAt v i s → (b m : ℕ) → k ≡ next.Byte b m → n < length s
+len-below at n v s i h k c b m e = let w = reads-on v s i k c b m e in omega arith
 
 -- ---- a number
 module _ (x : Number) (v : Service) (s : List ℕ) (i count acc : ℕ) (inv : x ≡ digits count acc (valueFrom v i s)) (k : Next) (c : k ≡ nextAt v i s) where

@@ -1,8 +1,7 @@
 // What the values of a segment say: compared, measured, read as codes, numbers and amounts. A value is given by the position where it begins.
 ghost use mathlib.Core.Path.{_≡_};
-ghost use Prim.Native.Nat.{_+_, _≤_};
 ghost use lib.ListN.{length, take, drop};
-ghost use Rattle.values.specs.Values.{valueFrom, nextAt, sameList, numberOf, isMark, fraction, amountOf, codeOf, isNumber, isCapital, isCapitals, valueIn};
+ghost use Rattle.values.specs.Values.{valueFrom, nextAt, sameList, numberOf, oneMore, partOf, wholeOf, fraction, amountOf, codeOf, isNumber, isCapital, isCapitals, valueIn};
 use parts::Token;
 use service::Service;
 
@@ -18,6 +17,13 @@ pub enum Number {
 
 pub enum Amount {
     Of(u64),
+    Not,
+}
+
+// The whole part of an amount: it ends the value, or a mark comes and what is left begins at a place, or there is none.
+enum Whole {
+    Ends(u64),
+    Marked(u64, usize),
     Not,
 }
 
@@ -158,13 +164,68 @@ pub fn number_at(s: &[u8], at: usize, v: Service) -> Number
     }
 }
 
-// The thousandths that up to three digits at `at` add to `total`.
-fn fraction_at(s: &[u8], at: usize, v: Service, total: u64) -> Amount
-    requires { ⌜ total + 1000 ≤ 1000000000000000 ⌝ }
-    ensures { λ r. ⌜ r ≡ fraction 100 total (valueFrom v at (now (s .entry))) ⌝ }
+// The number that `acc` and then the digit `b` write, where `count` says whether a digit came before: no leading zero, at most twelve digits.
+fn one_more(count: usize, acc: u64, b: u8) -> Number
+    ensures { λ r. ⌜ r ≡ oneMore count acc b ⌝ }
+{
+    if b < 48 {
+        return Number::Not;
+    }
+    if 57 < b {
+        return Number::Not;
+    }
+    if 99999999999 < acc {
+        return Number::Not;
+    }
+    if 0 < count {
+        if acc == 0 {
+            return Number::Not;
+        }
+    }
+    Number::Of(acc * 10 + (b - 48) as u64)
+}
+
+// The whole part of the amount at `at`: 1 to 12 digits with no leading zero.
+fn whole_at(s: &[u8], at: usize, v: Service) -> Whole
+    ensures { λ r. ⌜ partOf v (now (s .entry)) r ≡ wholeOf (valueFrom v at (now (s .entry))) ⌝ }
 {
     let mut i = at;
-    let mut sum = total;
+    let mut acc: u64 = 0;
+    let mut count: usize = 0;
+    loop {
+        let t = next_at(s, i, v);
+        match t {
+            Next::Byte(b, to) => {
+                if service::is_mark(b) {
+                    if 0 < count {
+                        return Whole::Marked(acc, to);
+                    }
+                    return Whole::Not;
+                }
+                let k = one_more(count, acc, b);
+                let Number::Of(n) = k else {
+                    return Whole::Not;
+                };
+                acc = n;
+                count = 1;
+                i = to;
+            }
+            Next::Done => {
+                if 0 < count {
+                    return Whole::Ends(acc);
+                }
+                return Whole::Not;
+            }
+        }
+    }
+}
+
+// The thousandths that up to three digits at `at` write.
+fn fraction_at(s: &[u8], at: usize, v: Service) -> Amount
+    ensures { λ r. ⌜ r ≡ fraction 100 0 (valueFrom v at (now (s .entry))) ⌝ }
+{
+    let mut i = at;
+    let mut sum: u64 = 0;
     let mut w: u64 = 100;
     loop {
         let t = next_at(s, i, v);
@@ -198,57 +259,18 @@ fn fraction_at(s: &[u8], at: usize, v: Service, total: u64) -> Amount
 pub fn amount_at(s: &[u8], at: usize, v: Service) -> Amount
     ensures { λ r. ⌜ r ≡ amountOf (valueFrom v at (now (s .entry))) ⌝ }
 {
-    let mut i = at;
-    let mut acc: u64 = 0;
-    let mut count: usize = 0;
-    loop {
-        let t = next_at(s, i, v);
-        match t {
-            Next::Byte(b, to) => {
-                if is_mark(b) {
-                    if 0 < count {
-                        return fraction_at(s, to, v, acc * 1000);
-                    } else {
-                        return Amount::Not;
-                    }
-                }
-                if b < 48 {
-                    return Amount::Not;
-                }
-                if 57 < b {
-                    return Amount::Not;
-                }
-                if 99999999999 < acc {
-                    return Amount::Not;
-                }
-                if 0 < count {
-                    if acc == 0 {
-                        return Amount::Not;
-                    }
-                }
-                acc = acc * 10 + (b - 48) as u64;
-                count = 1;
-                i = to;
-            }
-            Next::Done => {
-                if 0 < count {
-                    return Amount::Of(acc * 1000);
-                } else {
-                    return Amount::Not;
-                }
+    let w = whole_at(s, at, v);
+    match w {
+        Whole::Ends(u) => Amount::Of(u * 1000),
+        Whole::Marked(u, to) => {
+            let f = fraction_at(s, to, v);
+            match f {
+                Amount::Of(n) => Amount::Of(u * 1000 + n),
+                Amount::Not => Amount::Not,
             }
         }
+        Whole::Not => Amount::Not,
     }
-}
-
-// A comma or a dot.
-fn is_mark(b: u8) -> bool
-    ensures { λ r. ⌜ r ≡ isMark b ⌝ }
-{
-    if b == 44 {
-        return true;
-    }
-    b == 46
 }
 
 // A capital, A to Z.

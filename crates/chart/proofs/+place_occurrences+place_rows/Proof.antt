@@ -24,35 +24,35 @@ use Rattle.chart.proofs.takes.Reads as takes-reads
 use Rattle.chart.proofs.+place_occurrences+place_rows.{statement}
 use Rattle.chart.proofs.+place_occurrences+place_rows.Tie.{close}
 
-abbrev μ-place-occurrences : Measures 1 place-occurrences-kinds.ps ℕ
-μ-place-occurrences κs a = (endOf (a .1 .1 .0) - a .1 .1 .0) + (endOf (a .1 .1 .0) - a .1 .1 .0)
+abbrev μ-place-occurrences : Measures 2 place-occurrences-kinds.ps ℕ
+μ-place-occurrences κs a = (endOf (a .1 .1 .1 .0) - a .1 .1 .1 .0) + (endOf (a .1 .1 .1 .0) - a .1 .1 .1 .0)
 
-abbrev μ-place-rows : Measures 1 place-rows-kinds.ps ℕ
-μ-place-rows κs a = (a .1 .1 .1 .0 - a .1 .1 .0) + (a .1 .1 .1 .0 - a .1 .1 .0) + 1
+abbrev μ-place-rows : Measures 2 place-rows-kinds.ps ℕ
+μ-place-rows κs a = (a .1 .1 .1 .1 .0 - a .1 .1 .1 .0) + (a .1 .1 .1 .1 .0 - a .1 .1 .1 .0) + 1
 
-abbrev place-occurrences-at : ℕ → In 1 place-occurrences-kinds.ps
+abbrev place-occurrences-at : ℕ → In 2 place-occurrences-kinds.ps
 place-occurrences-at t =
     and
-    1
+    2
     place-occurrences-kinds.ps
-    (is 1 place-occurrences-kinds.ps μ-place-occurrences t)
+    (is 2 place-occurrences-kinds.ps μ-place-occurrences t)
     place-occurrences.Pre
 
-abbrev place-occurrences-below : ℕ → In 1 place-occurrences-kinds.ps
+abbrev place-occurrences-below : ℕ → In 2 place-occurrences-kinds.ps
 place-occurrences-below t =
     and
-    1
+    2
     place-occurrences-kinds.ps
-    (falls 1 place-occurrences-kinds.ps _<_ μ-place-occurrences t)
+    (falls 2 place-occurrences-kinds.ps _<_ μ-place-occurrences t)
     place-occurrences.Pre
 
-abbrev place-rows-at : ℕ → In 1 place-rows-kinds.ps
+abbrev place-rows-at : ℕ → In 2 place-rows-kinds.ps
 place-rows-at t =
-    and 1 place-rows-kinds.ps (is 1 place-rows-kinds.ps μ-place-rows t) place-rows.Pre
+    and 2 place-rows-kinds.ps (is 2 place-rows-kinds.ps μ-place-rows t) place-rows.Pre
 
-abbrev place-rows-below : ℕ → In 1 place-rows-kinds.ps
+abbrev place-rows-below : ℕ → In 2 place-rows-kinds.ps
 place-rows-below t =
-    and 1 place-rows-kinds.ps (falls 1 place-rows-kinds.ps _<_ μ-place-rows t) place-rows.Pre
+    and 2 place-rows-kinds.ps (falls 2 place-rows-kinds.ps _<_ μ-place-rows t) place-rows.Pre
 
 -- the callees' claims at the measure t
 abbrev occurrences-claims : ℕ → place-occurrences-lts.Claims
@@ -62,10 +62,10 @@ abbrev rows-claims : ℕ → place-rows-lts.Claims
 rows-claims t = (place-occurrences-below t, place-occurrences.Post, end-of-reads.Asked, end-of-reads.Learnt)
 
 abbrev place-occurrences-Inv-loop : place-occurrences-lts.InvT-loop
-place-occurrences-Inv-loop m v r tag most end first times₀ c₀ times c = RowInv v m r c₀ times c
+place-occurrences-Inv-loop m v chart r tag most end first times₀ c₀ times c = RowInv v m r c₀ times c
 
 abbrev place-occurrences-μ-loop : place-occurrences-lts.MeasureT-loop
-place-occurrences-μ-loop m v r tag most end first times₀ c₀ times c = most - times
+place-occurrences-μ-loop m v chart r tag most end first times₀ c₀ times c = most - times
 
 place-occurrences-tag-of-requires : (t : ℕ) → place-occurrences-lts.Need-tag-of-requires (occurrences-claims t) (place-occurrences-at t) place-occurrences.Post place-occurrences-Inv-loop place-occurrences-μ-loop
 place-occurrences-tag-of-requires t c κs = search needs
@@ -122,10 +122,10 @@ place-occurrences-returns-3 : (t : ℕ) → place-occurrences-lts.Need-returns-3
 place-occurrences-returns-3 t c = search (row-done, needs)
 
 abbrev place-rows-Inv-loop : place-rows-lts.InvT-loop
-place-rows-Inv-loop m v lo hi r₀ c₀ r c = RowsInv v m lo hi c₀ r c
+place-rows-Inv-loop m v chart lo hi r₀ c₀ r c = RowsInv v m lo hi c₀ r c
 
 abbrev place-rows-μ-loop : place-rows-lts.MeasureT-loop
-place-rows-μ-loop m v lo hi r₀ c₀ r c = hi - r
+place-rows-μ-loop m v chart lo hi r₀ c₀ r c = hi - r
 
 place-rows-loop-holds : (t : ℕ) → place-rows-lts.Need-loop-holds (rows-claims t) (place-rows-at t) place-rows.Post place-rows-Inv-loop place-rows-μ-loop
 place-rows-loop-holds t c = search (rows-start, needs)

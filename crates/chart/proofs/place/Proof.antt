@@ -8,33 +8,38 @@ use Rattle.chart.proofs.place.Reads as reads
 use Rattle.chart.proofs.place.Lts as lts
 use Rattle.chart.proofs.cursor_at.Reads as cursor-at-reads
 use Rattle.chart.proofs.place_rows.Reads as place-rows-reads
+use Rattle.paymul.proofs.chart.Reads as chart-reads
 
 cursor-at-requires : tie.Need-cursor-at-requires
-cursor-at-requires c κs = search needs
+cursor-at-requires c κs = search (chart-some, whole-over, whole-placed, whole-stuck, needs)
+
+chart-requires : tie.Need-chart-requires
+chart-requires c κs = search (chart-some, whole-over, whole-placed, whole-stuck, needs)
 
 place-rows-requires : tie.Need-place-rows-requires
-place-rows-requires c κs = search (chart-some, needs)
+place-rows-requires c κs = search (chart-some, whole-over, whole-placed, whole-stuck, needs)
 
 enum-known-w : tie.Need-enum-known-w
-enum-known-w c = search needs
+enum-known-w c = search (chart-some, whole-over, whole-placed, whole-stuck, needs)
 
 returns : tie.Need-returns
-returns c = search (whole-over, needs)
+returns c = search (chart-some, whole-over, whole-placed, whole-stuck, needs)
 
 enum-known-w-2 : tie.Need-enum-known-w-2
-enum-known-w-2 c = search needs
+enum-known-w-2 c = search (chart-some, whole-over, whole-placed, whole-stuck, needs)
 
 returns-2 : tie.Need-returns-2
-returns-2 c = search (whole-placed, needs)
+returns-2 c = search (chart-some, whole-over, whole-placed, whole-stuck, needs)
 
 returns-3 : tie.Need-returns-3
-returns-3 c = search (whole-stuck, needs)
+returns-3 c = search (chart-some, whole-over, whole-placed, whole-stuck, needs)
 
 pub place-spec : {M : Type 1} → statement M
 place-spec =
     tie.close
     (tie.spec
     cursor-at-requires
+    chart-requires
     place-rows-requires
     enum-known-w
     returns
