@@ -1,5 +1,6 @@
-# Sourced by the gate: what examples/host.c answers for each sample. $host is the command, $how says which build it is. A sample whose report says OK of every message and closes
-# with 0 is accepted (status 0), any other is refused (status 1); its longer lists and room judge three samples otherwise.
+# Sourced by the gate: what examples/host.c answers for each sample. $host is the command, $how says which build it is.
+# A sample whose report says OK of every message and closes with 0 is accepted (status 0), any other is refused (status 1); its longer
+# lists and room judge three samples otherwise.
 host_wants() { # SAMPLE without ending -> expected status
     case $(basename "$1") in
     refused_14_b) echo 0; return ;;
