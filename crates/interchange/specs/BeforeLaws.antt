@@ -1,9 +1,9 @@
 -- What stands before a damaged place is found as before. Assumes nothing.
-use Prim.Native.Nat.{ℕ, suc, zero, _+_, _≤_, _<_}
+use Prim.Native.Nat.{ℕ, _≤_, _<_}
 use native.Mathlib.Decide.{decLt}
 use native.Mathlib.Omega.{arith}
 use mathlib.Core.Path.{_≡_, refl, sym, _∙_, ap, ap₂, subst}
-use mathlib.Core.List.{List, [], _∷_, _++_, map, append-assoc, append-nil}
+use mathlib.Core.List.{List, [], _∷_, _++_}
 use mathlib.Core.Bool.{Bool, true, false}
 use lib.ListN.{length, drop}
 use lib.Seq.{drop-append-le}
@@ -17,16 +17,30 @@ use Rattle.segments.specs.Classes.{if}
 use Rattle.segments.specs.Bytes.{endFrom, pastBreaks}
 use Rattle.segments.specs.Segments.{segmentBy, segmentAt}
 use Rattle.segments.specs.SegmentsLaws.{segment-nothing, segment-by, lies}
-use Rattle.segments.specs.SegmentList.{Piece, finished, unfinished, gap, pieces, segmentsFrom, segmentsAfter}
-use Rattle.segments.specs.Sync.{run}
-use Rattle.segments.specs.ResyncLaws.{pieces-append}
+use Rattle.segments.specs.SegmentList.{Piece, finished, unfinished, segmentsFrom, segmentsAfter}
 use Rattle.segments.specs.ListLaws.{list-nothing, list-finished, list-unfinished, segments-after}
 use Rattle.parts.specs.Lex.{lex, valueOf}
 use Rattle.parts.specs.PartLaws.{lex-part}
 use Rattle.values.specs.Values.{codeOf}
-use Rattle.interchange.specs.Messages.{tagAt, UNH, UNT, UNZ, startOf, isNone, Kind, head, trailer, last, other, cut, kindBy, kindOf, Extent, closed, unclosed, extentBy, extentOf, messagesBy, messagesOf}
-use Rattle.interchange.specs.Damage.{beginning, stands, Agree, nil, fin, unf}
-use Rattle.interchange.specs.DamageLaws.{messages-append}
+use Rattle.interchange.specs.Messages.{tagAt, UNH, UNT, UNZ, isNone, head, trailer, last, other, Extent, extentBy, extentOf, messagesBy}
+use Rattle.interchange.specs.DamageLaws.{beginning}
+
+-- whether a message stands open after the segments l, where one stood open before them or not
+unfoldable pub stands : Service → List ℕ → Bool → List Piece → Bool
+stands v s r [] = r
+stands v s r (finished a t ∷ l) = stands v s (if (eqb (tagAt v s a) UNH) true (if (eqb (tagAt v s a) UNT) false r)) l
+stands v s r (unfinished a e ∷ l) = stands v s r l
+
+-- the tags of two texts at the finished segments of a list agree
+pub data Agree (v : Service) (s s′ : List ℕ) : List Piece → Type 0 where
+  nil : Agree v s s′ []
+  fin : (a t : ℕ) (l : List Piece) → tagAt v s a ≡ tagAt v s′ a → Agree v s s′ l → Agree v s s′ (finished a t ∷ l)
+  unf : (a e : ℕ) (l : List Piece) → Agree v s s′ l → Agree v s s′ (unfinished a e ∷ l)
+
+pub agree-both : (v : Service) (s s′ x : List ℕ) (l : List Piece) → Agree v s x l → Agree v s′ x l → Agree v s s′ l
+agree-both v s s′ x l nil nil = nil
+agree-both v s s′ x l (fin a t k e w) (fin _ _ _ e′ w′) = fin a t k (e ∙ sym e′) (agree-both v s s′ x k w w′)
+agree-both v s s′ x l (unf a e k w) (unf _ _ _ w′) = unf a e k (agree-both v s s′ x k w w′)
 
 -- ---- a message that ends among the segments l does not depend on what follows
 module _ (v : Service) (s s′ : List ℕ) (r r′ : List Piece) where
@@ -107,19 +121,7 @@ module _ (v : Service) (s b : List ℕ) where
   agree-from (p ∷ l) i e =
       agree-by (p ∷ l) (λ (n : ℕ) (m : List Piece) f (q : Piece) x. let u : m ≡ l = cc in subst (Agree v (s ++ b) s) (sym u) (agree-from l n (f ∙ u))) i e (segmentAt v i s) refl
 
-  pub agree : Agree v (s ++ b) s (segmentsAfter v s 0)
-  agree = subst (Agree v (s ++ b) s) (sym (segments-after v s 0 (pastBreaks 0 (drop 0 s)) refl)) (agree-from (segmentsFrom v s (pastBreaks 0 (drop 0 s))) (pastBreaks 0 (drop 0 s)) refl)
-
-  pub begins-alone : (l : List Piece) → beginning v s l [] ≡ messagesOf v s l
-  unfolding beginning messagesOf
-  begins-alone [] = refl
-  begins-alone (p ∷ l) = rw (append-nil l) (ap (messagesBy (kindOf v s p l) (extentOf v s (startOf p) l)) (begins-alone l))
-
-  -- after a text that leaves no segment and no message open, the messages that begin in it are those of it by itself, whatever follows
-  pub found-before : run v gap s ≡ gap → stands v s false (segmentsAfter v s 0) ≡ false
-      → messagesOf v (s ++ b) (segmentsAfter v (s ++ b) 0) ≡ messagesOf v s (segmentsAfter v s 0) ++ messagesOf v (s ++ b) (pieces v gap 0 (0 + length s) b)
-  found-before g h =
-      ap (messagesOf v (s ++ b)) (pieces-append v gap 0 0 s b g)
-      ∙ messages-append v (s ++ b) (segmentsAfter v s 0) (pieces v gap 0 (0 + length s) b)
-      ∙ ap (λ (w : List Extent). w ++ messagesOf v (s ++ b) (pieces v gap 0 (0 + length s) b))
-      (begins-same v (s ++ b) s (pieces v gap 0 (0 + length s) b) [] false agree h ∙ begins-alone (segmentsAfter v s 0))
+  pub agree : (i : ℕ) → Agree v (s ++ b) s (segmentsAfter v s i)
+  agree i =
+      subst (Agree v (s ++ b) s) (sym (segments-after v s i (pastBreaks i (drop i s)) refl))
+      (agree-from (segmentsFrom v s (pastBreaks i (drop i s))) (pastBreaks i (drop i s)) refl)

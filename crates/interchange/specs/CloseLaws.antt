@@ -1,7 +1,7 @@
 -- What closing makes of the counts. Each premise is a fact that a proof has at hand. Assumes nothing.
-use Prim.Native.Nat.{ℕ, suc, _+_, _≤_, _<_}
+use Prim.Native.Nat.{ℕ, suc, _≤_}
 use native.Mathlib.Omega.{arith}
-use mathlib.Core.Path.{_≡_, refl, sym, _∙_, ap}
+use mathlib.Core.Path.{_≡_, refl, sym, _∙_, ap, ap₂}
 use mathlib.Core.List.{List, [], _∷_}
 use mathlib.Core.Bool.{Bool, true, false}
 use lib.ListN.{length, drop}
@@ -17,10 +17,10 @@ use Rattle.interchange.specs.declared.Opening.{Opening}
 use Rattle.interchange.specs.declared.Opening.the-variants.{Opens, Refused}
 use Rattle.interchange.specs.declared.Survey.{Survey}
 use Rattle.interchange.specs.declared.Closing.{Closing}
-use Rattle.interchange.specs.Messages.{tagAt, UNH, UNT, UNZ, Kind, head, trailer, last, other, cut, kindBy, messagesOf, straysOf}
+use Rattle.interchange.specs.Messages.{tagAt, UNH, UNT, UNZ, head, trailer, last, other, kindBy, messagesOf, straysOf}
 use Rattle.interchange.specs.Envelope.{isUnz, lastUnz, openingOf, afterFirst, lastStart, closingNumber, bodyOf, messageCount, strayCount, closedBy, closingBy, closingOf}
 use Rattle.interchange.specs.Opened.{opened}
-use Rattle.interchange.specs.SurveyLaws.{stopBy, stopOf, Surveyed}
+use Rattle.interchange.specs.SurveyLaws.{stopBy, stopOf, farther, Surveyed}
 
 -- ---- an unfinished segment is the last
 pub data Tidy : List Piece → Type 0 where
@@ -53,16 +53,16 @@ go-on false true w i on = refl
 go-on false false true i on = refl
 go-on false false false i on = refl
 
-stop-is : (v : Service) (s : List ℕ) (b : Bool) {l : List Piece} → Tidy l → lastUnz v s b l ≡ true → stopOf v s l ≡ lastStart (length s) l
+stop-is : (v : Service) (s : List ℕ) (b : Bool) {l : List Piece} → Tidy l → lastUnz v s b l ≡ true → stopOf v s (length s) l ≡ lastStart (length s) l
 unfolding stopOf lastStart lastUnz
 stop-is v s b nil e = refl
 stop-is v s b (one a u) e = absurd (let z : _≡_ {A = ℕ} 0 1 = cc in omega arith)
 stop-is v s b (more a t [] w) e = rw (unz-last (tagAt v s a) e) refl
 stop-is v s b (more a t (p ∷ l) w) e =
-    go-on (eqb (tagAt v s a) UNH) (eqb (tagAt v s a) UNT) (eqb (tagAt v s a) UNZ) a (stopOf v s (p ∷ l))
+    go-on (eqb (tagAt v s a) UNH) (eqb (tagAt v s a) UNT) (eqb (tagAt v s a) UNZ) a (stopOf v s (length s) (p ∷ l))
     ∙ stop-is v s (isUnz v s (finished a t)) w e
 
-stop-body : (v : Service) (s : List ℕ) {l : List Piece} → Tidy l → lastUnz v s false l ≡ true → stopOf v s (afterFirst l) ≡ lastStart (length s) (afterFirst l)
+stop-body : (v : Service) (s : List ℕ) {l : List Piece} → Tidy l → lastUnz v s false l ≡ true → stopOf v s (length s) (afterFirst l) ≡ lastStart (length s) (afterFirst l)
 unfolding stopOf lastStart lastUnz
 stop-body v s nil e = refl
 stop-body v s (one a u) e = refl
@@ -104,11 +104,12 @@ module _ (s : List ℕ) (o : Opening) (c : o ≡ openingOf s) where
   pub close-refused : (f : Refusal) → o ≡ Refused f → _≡_ {A = Closing} (record { number = f .number; messages = 0; strays = 0 }) (closingOf s)
   close-refused f e = rw e at close-by
 
-  pub close-opens : (v : Service) (first : ℕ) → o ≡ Opens v first → (p : ℕ) → segmentsFrom v s p ≡ bodyOf v s first → (w : Survey) → Surveyed v s (segmentsFrom v s p) w
+  pub close-opens : (v : Service) (first : ℕ) → o ≡ Opens v first → (p : ℕ) → p ≤ length s → segmentsFrom v s p ≡ bodyOf v s first → (w : Survey) → Surveyed v s p w
       → (n : ℕ) → n ≡ closingNumber v s first (w .end) (w .messages) (w .strays) → _≡_ {A = Closing} (record { number = n; messages = w .messages; strays = w .strays }) (closingOf s)
-  close-opens v first e p b w y n r =
+  close-opens v first e p h b w y n r =
+      let f : farther p (length s) ≡ length s = omega arith in
       let k : w .messages ≡ messageCount v s first = y .counted ∙ ap (λ (l : List Piece). length (messagesOf v s l)) b in
       let j : w .strays ≡ strayCount v s first = y .strayed ∙ ap (λ (l : List Piece). length (straysOf v s false l)) b in
-      let i : w .end ≡ lastStart (length s) (bodyOf v s first) = y .stopped ∙ ap (stopOf v s) b ∙ stop-body v s (tidy-pieces v _ first first (drop first s)) (opened s v first (sym c ∙ e) .closes) in
+      let i : w .end ≡ lastStart (length s) (bodyOf v s first) = y .stopped ∙ ap₂ (stopOf v s) f b ∙ stop-body v s (tidy-pieces v _ first first (drop first s)) (opened s v first (sym c ∙ e) .closes) in
       let x : n ≡ closingNumber v s first (lastStart (length s) (bodyOf v s first)) (messageCount v s first) (strayCount v s first) = rw (← i, ← k, ← j) r in
       together s v first n (w .messages) (w .strays) x k j ∙ rw e at close-by

@@ -1,32 +1,69 @@
--- Messages before and after a damaged place: what the theorems on damage speak of.
-use Prim.Native.Nat.{ℕ, _+_}
+-- Damage to one message of an interchange: what the theorem `damage` of `DamageTheorem` says.
+use Prim.Native.Nat.{ℕ, _+_, _-_, _≤_}
 use mathlib.Core.Path.{_≡_}
-use mathlib.Core.List.{List, [], _∷_, _++_}
+use mathlib.Core.List.{List, [], _∷_, _++_, map}
 use mathlib.Core.Bool.{Bool, true, false}
-use lib.Dec.{eqb}
+use lib.ListN.{length, take, drop}
 use Rattle.service.specs.declared.Service.{Service}
-use Rattle.segments.specs.Classes.{if}
-use Rattle.segments.specs.SegmentList.{Piece, finished, unfinished}
-use Rattle.interchange.specs.Messages.{tagAt, UNH, UNT, startOf, kindOf, Extent, closed, unclosed, extentOf, messagesBy}
+use Rattle.segments.specs.SegmentList.{Piece, finished}
+use Rattle.interchange.specs.declared.Opening.the-variants.{Opens}
+use Rattle.interchange.specs.Messages.{Extent, closed, unclosed, startsAt, endsAt, messagesOf}
+use Rattle.interchange.specs.Envelope.{openingOf, bodyOf}
+use Rattle.interchange.specs.Walk.{Walks, Own}
 
--- the same message, k bytes further on
-abbrev pub moved : ℕ → Extent → Extent
-moved k (closed a e) = closed (k + a) (k + e)
-moved k (unclosed a e) = unclosed (k + a) (k + e)
+-- whether the last of some messages is closed, or, of none, what is given
+unfoldable pub lastClosed : Bool → List Extent → Bool
+lastClosed b [] = b
+lastClosed b (closed a e ∷ l) = lastClosed true l
+lastClosed b (unclosed a e ∷ l) = lastClosed false l
 
--- the messages that begin in the segments l, where the segments r follow
-unfoldable pub beginning : Service → List ℕ → List Piece → List Piece → List Extent
-beginning v s [] r = []
-beginning v s (p ∷ l) r = messagesBy (kindOf v s p (l ++ r)) (extentOf v s (startOf p) (l ++ r)) (beginning v s l r)
+-- two finished segments one after the other: the terminator of the first at t, that of the second at z
+pub data Before (t z : ℕ) : List Piece → Type 0 where
+  here : (b u : ℕ) (l : List Piece) → Before t z (finished b t ∷ finished u z ∷ l)
+  later : (p : Piece) (l : List Piece) → Before t z l → Before t z (p ∷ l)
 
--- whether a message stands open after the segments l, where one stood open before them or not
-unfoldable pub stands : Service → List ℕ → Bool → List Piece → Bool
-stands v s r [] = r
-stands v s r (finished a t ∷ l) = stands v s (if (eqb (tagAt v s a) UNH) true (if (eqb (tagAt v s a) UNT) false r)) l
-stands v s r (unfinished a e ∷ l) = stands v s r l
+-- a closed message among the segments l, from a up to e, with the messages before and after it. The last one before it, if any, is closed too. Its
+-- UNT ends at e, so that its terminator is the byte before; t is the terminator before the UNT.
+pub record Target (v : Service) (s : List ℕ) (l : List Piece) (before : List Extent) (a t e : ℕ) (after : List Extent) : Type 0 where
+  pub messages : messagesOf v s l ≡ before ++ (closed a e ∷ after)
+  pub closes : lastClosed true before ≡ true
+  pub last : ℕ
+  pub ends : last + 1 ≡ e
+  pub precedes : Before t last l
 
--- the tags of two texts at the finished segments of a list agree
-pub data Agree (v : Service) (s s′ : List ℕ) : List Piece → Type 0 where
-  nil : Agree v s s′ []
-  fin : (a t : ℕ) (l : List Piece) → tagAt v s a ≡ tagAt v s′ a → Agree v s s′ l → Agree v s s′ (finished a t ∷ l)
-  unf : (a e : ℕ) (l : List Piece) → Agree v s s′ l → Agree v s s′ (unfinished a e ∷ l)
+-- "its bytes from its UNH up to but excluding the terminator before its UNT" replaced by d
+abbrev pub replaced : List ℕ → ℕ → List ℕ → ℕ → List ℕ
+replaced s a d t = take a s ++ (d ++ drop t s)
+
+-- a message behind a place where a text of n bytes became one of n′ bytes: start and end "shifted by the difference"
+abbrev pub shifted : ℕ → ℕ → Extent → Extent
+shifted n n′ (closed a e) = closed (a + n′ - n) (e + n′ - n)
+shifted n n′ (unclosed a e) = unclosed (a + n′ - n) (e + n′ - n)
+
+-- each of some messages begins at k or after
+pub data From (k : ℕ) : List Extent → Type 0 where
+  none : From k []
+  also : (m : Extent) (ms : List Extent) → k ≤ startsAt m → From k ms → From k (m ∷ ms)
+
+-- the bytes of a message
+abbrev pub bytesOf : List ℕ → Extent → List ℕ
+bytesOf s m = take (endsAt m - startsAt m) (drop (startsAt m) s)
+
+-- the messages before are found with the same start and end, those after with both shifted by the difference of the lengths, in the same order, each
+-- with the same bytes; l′ are the segments of the damaged text
+pub record Kept (v : Service) (s s′ : List ℕ) (l′ : List Piece) (before after : List Extent) : Type 0 where
+  -- what is found in the damaged place
+  pub between : List Extent
+  pub same : messagesOf v s′ l′ ≡ before ++ (between ++ map (shifted (length s) (length s′)) after)
+  -- each message after begins past as many bytes as were lost, so that no difference is cut off at 0
+  pub exact : From (length s - length s′) after
+  pub bytes-before : map (bytesOf s′) before ≡ map (bytesOf s) before
+  pub bytes-after : map (bytesOf s′) (map (shifted (length s) (length s′)) after) ≡ map (bytesOf s) after
+
+-- the damaged interchange opens as it did, its messages are kept, the walk from its first byte visits exactly them, and each is found at its own
+-- first byte
+pub record Survives (v : Service) (s s′ : List ℕ) (first : ℕ) (before after : List Extent) : Type 0 where
+  pub opens : openingOf s′ ≡ Opens v first
+  pub kept : Kept v s s′ (bodyOf v s′ first) before after
+  pub walks : Walks v s′ 0 (before ++ (kept .between ++ map (shifted (length s) (length s′)) after))
+  pub owns : Own v s′ (before ++ (kept .between ++ map (shifted (length s) (length s′)) after))

@@ -1,20 +1,27 @@
 -- What follows a damaged place is found again, at its own place. Assumes nothing.
-use Prim.Native.Nat.{ℕ, suc, zero, _+_, _≤_, _<_}
+use Prim.Native.Nat.{ℕ, _+_}
 use native.Mathlib.Omega.{arith}
-use mathlib.Core.Path.{_≡_, refl, sym, _∙_, ap, ap₂}
+use mathlib.Core.Path.{_≡_, refl, _∙_, ap, ap₂}
 use mathlib.Core.List.{List, [], _∷_, _++_, map}
-use mathlib.Core.Bool.{Bool, true, false}
-use lib.ListN.{length, drop, length-append}
+use mathlib.Core.Bool.{false}
+use lib.ListN.{length, length-append}
 use lib.Seq.{drop-append-add}
 use Rattle.service.specs.declared.Service.{Service}
-use Rattle.service.specs.Service.{Fits}
-use Rattle.segments.specs.SegmentList.{Piece, finished, unfinished, gap, pieces, segmentsAfter}
-use Rattle.segments.specs.Sync.{shift, relAfter}
-use Rattle.segments.specs.FitLaws.{fit-resync}
+use Rattle.segments.specs.SegmentList.{Piece, finished, unfinished}
+use Rattle.segments.specs.Sync.{shift}
 use Rattle.parts.specs.Lex.{lex, valueOf}
 use Rattle.values.specs.Values.{codeOf}
 use Rattle.interchange.specs.Messages.{tagAt, startOf, isNone, Kind, head, trailer, last, other, cut, kindBy, kindOf, Extent, closed, unclosed, pastOf, extentBy, extentOf, messagesBy, messagesOf}
-use Rattle.interchange.specs.Damage.{moved, beginning}
+
+-- the same message, k bytes further on
+abbrev pub moved : ℕ → Extent → Extent
+moved k (closed a e) = closed (k + a) (k + e)
+moved k (unclosed a e) = unclosed (k + a) (k + e)
+
+-- the messages that begin in the segments l, where the segments r follow
+unfoldable pub beginning : Service → List ℕ → List Piece → List Piece → List Extent
+beginning v s [] r = []
+beginning v s (p ∷ l) r = messagesBy (kindOf v s p (l ++ r)) (extentOf v s (startOf p) (l ++ r)) (beginning v s l r)
 
 -- ---- the messages of segments one after the other
 messages-head : (k : Kind) (m : Extent) (x y : List Extent) → messagesBy k m (x ++ y) ≡ messagesBy k m x ++ y
@@ -82,15 +89,3 @@ module _ (v : Service) (x r : List ℕ) where
       (ap (messagesBy (kindOf v r p l) (extentOf v (x ++ r) (startOf (shift (length x) p)) (map (shift (length x)) l))) (messages-moved l)
       ∙ messages-first (kindOf v r p l) (extentOf v r (startOf p) l) (extentOf v (x ++ r) (startOf (shift (length x) p)) (map (shift (length x)) l)) (messagesOf v r l)
       (ap (λ (a : ℕ). extentOf v (x ++ r) a (map (shift (length x)) l)) (start-moved p) ∙ extent-moved (startOf p) l))
-
--- whatever stands in p: after a terminator, bytes u that leave nothing released, and a terminator, the messages that begin in the rest are those of
--- the rest by itself, in the same order, moved to where it stands
-module _ (v : Service) (f : Fits v) (p u r : List ℕ) (h : relAfter v false u ≡ false) where
-  pub found-again : let x : List ℕ = p ++ (v .terminator ∷ u) ++ v .terminator ∷ [] in
-      messagesOf v (x ++ r) (segmentsAfter v (x ++ r) 0)
-      ≡ beginning v (x ++ r) (segmentsAfter v x 0) (map (shift (length x)) (segmentsAfter v r 0)) ++ map (moved (length x)) (messagesOf v r (segmentsAfter v r 0))
-  found-again =
-      let x : List ℕ = p ++ (v .terminator ∷ u) ++ v .terminator ∷ [] in
-      ap (messagesOf v (x ++ r)) (fit-resync v f gap p u r h)
-      ∙ messages-append v (x ++ r) (pieces v gap 0 0 x) (map (shift (length x)) (pieces v gap 0 0 r))
-      ∙ ap (λ (w : List Extent). beginning v (x ++ r) (pieces v gap 0 0 x) (map (shift (length x)) (pieces v gap 0 0 r)) ++ w) (messages-moved v x r (pieces v gap 0 0 r))

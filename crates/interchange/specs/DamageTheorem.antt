@@ -1,59 +1,59 @@
--- A damaged message hides no other: the messages before it and after it are found as before. Assumes nothing.
-use Prim.Native.Nat.{ℕ, _+_}
-use mathlib.Core.Path.{_≡_, refl, sym, _∙_, ap, subst}
-use mathlib.Core.List.{List, [], _∷_, _++_, map, append-assoc}
-use mathlib.Core.Bool.{Bool, true, false}
-use lib.ListN.{length}
+-- Damage to one message of an interchange hides no other. Assumes nothing.
+use Prim.Native.Nat.{ℕ, _+_, _≤_}
+use mathlib.Core.Path.{_≡_, sym, subst}
+use mathlib.Core.List.{List, _∷_, _++_}
+use mathlib.Core.Bool.{true}
+use lib.ListN.{length, take, drop}
 use Rattle.service.specs.declared.Service.{Service}
 use Rattle.service.specs.Service.{Fits}
-use Rattle.segments.specs.SegmentList.{Piece, gap, pieces, segmentsAfter}
-use Rattle.segments.specs.Sync.{run, shift, relAfter}
-use Rattle.segments.specs.ResyncLaws.{pieces-append}
-use Rattle.segments.specs.FitLaws.{fit-resync}
-use Rattle.interchange.specs.Messages.{Extent, messagesOf}
-use Rattle.interchange.specs.Damage.{moved, beginning, stands, Agree}
-use Rattle.interchange.specs.DamageLaws.{messages-append, messages-moved}
-use Rattle.interchange.specs.BeforeLaws.{begins-same, begins-alone, agree}
+use Rattle.service.specs.FitLaws.{characters-fit}
+use Rattle.segments.specs.SegmentList.{Piece, segmentsFrom, segmentsAfter}
+use Rattle.values.specs.Numbers.{Bytes}
+use Rattle.values.specs.ByteLaws.{drop-bytes, take-bytes, append-bytes}
+use Rattle.interchange.specs.declared.Opening.the-variants.{Opens}
+use Rattle.interchange.specs.Messages.{Extent, closed, messagesOf}
+use Rattle.interchange.specs.Envelope.{openingOf, afterFirst, bodyOf}
+use Rattle.interchange.specs.Opened.{opened}
+use Rattle.interchange.specs.Walk.{Walks, Own}
+use Rattle.interchange.specs.WalkTheorems.{header, owns}
+use Rattle.interchange.specs.ZeroTheorems.{walks-zero}
+use Rattle.interchange.specs.Damage.{lastClosed, Target, replaced, Kept, Survives}
+use Rattle.interchange.specs.CloseLaws.{Tidy, nil, one, more, tidy-pieces}
+use Rattle.interchange.specs.TargetLaws.{target-in}
+use Rattle.interchange.specs.PlaceLaws.{Place, place}
+use Rattle.interchange.specs.KeptTheorem.{kept}
+use Rattle.interchange.specs.ReopenTheorem.{body-after, unb-within, new-body, reopens}
 
--- all messages of a text
-abbrev pub allMessages : Service → List ℕ → List Extent
-allMessages v s = messagesOf v s (segmentsAfter v s 0)
+-- Take an interchange that opens and a closed message in it whose predecessor, if any, is closed too. Replace its bytes from its UNH up to but excluding
+-- the terminator before its UNT by any bytes d, the whole staying within the limit. The result opens, and every other message is found as before.
+pub damage : (s : List ℕ) → Bytes s → (v : Service) (first : ℕ) → openingOf s ≡ Opens v first
+    → (before : List Extent) (a t e : ℕ) (after : List Extent) → Target v s (bodyOf v s first) before a t e after
+    → (d : List ℕ) → Bytes d → length (replaced s a d t) ≤ 1048576 → Survives v s (replaced s a d t) first before after
+damage s b v first o before a t e after w d c h =
+    let i = opened s v first o in
+    let f : Fits v = characters-fit s v (i .una) (i .named) .0 in
+    let q : ℕ = header s v first o .term + 1 in
+    let g : q ≤ length s = unb-within s b v first o in
+    let w′ : Target v s (segmentsAfter v s q) before a t e after = subst (λ (l : List Piece). Target v s l before a t e after) (body-after s b v first o) w in
+    let p : Place v s q before a t e after = place v s q g before a t e after w′ in
+    let s′ : List ℕ = replaced s a d t in
+    let b′ : Bytes s′ = append-bytes (take a s) (d ++ drop t s) (take-bytes a s b) (append-bytes d (drop t s) c (drop-bytes t s b)) in
+    let o′ : openingOf s′ ≡ Opens v first = reopens s b v first o f before a t e after p d h in
+    let k : Kept v s s′ (bodyOf v s′ first) before after =
+    subst (λ (l : List Piece). Kept v s s′ l before after) (sym (new-body s b v first o f before a t e after p d)) (kept v f s q g before a t e after w′ d) in
+    record {
+      opens = o′;
+      kept = k;
+      walks = subst (Walks v s′ 0) (k .same) (walks-zero s′ b′ v first o′);
+      owns = subst (Own v s′) (k .same) (owns s′ v first o′);
+    }
 
--- the text a leaves no segment and no message open; d is any bytes; then come a terminator, bytes u that leave nothing released (the UNT) and its
--- terminator; r is the rest
-abbrev pub damaged : Service → List ℕ → List ℕ → List ℕ → List ℕ
-damaged v a d u = a ++ d ++ (v .terminator ∷ u) ++ v .terminator ∷ []
+tidy-after : (l : List Piece) → Tidy l → Tidy (afterFirst l)
+tidy-after l nil = nil
+tidy-after l (one a e) = nil
+tidy-after l (more a t m w) = w
 
-module _ (v : Service) (a d u r : List ℕ) where
-  -- the messages of a by itself, then any, then those of the rest by itself, moved to where it stands
-  pub record Kept : Type 0 where
-    pub between : List Extent
-    pub same : allMessages v (damaged v a d u ++ r) ≡ allMessages v a ++ (between ++ map (moved (length (damaged v a d u))) (allMessages v r))
-
-  module _ (f : Fits v) (g : run v gap a ≡ gap) (h : stands v a false (segmentsAfter v a 0) ≡ false) (k : relAfter v false u ≡ false) where
-    split : damaged v a d u ≡ a ++ (d ++ (v .terminator ∷ u) ++ v .terminator ∷ [])
-    split = simp append-assoc
-
-    split-all : damaged v a d u ++ r ≡ a ++ (d ++ (v .terminator ∷ u) ++ v .terminator ∷ [] ++ r)
-    split-all = simp append-assoc
-
-    pub kept : Kept
-    kept =
-        let s : List ℕ = damaged v a d u ++ r in
-        let y : List ℕ = d ++ (v .terminator ∷ u) ++ v .terminator ∷ [] in
-        let p : List Piece = segmentsAfter v a 0 in
-        let q : List Piece = pieces v gap 0 (0 + length a) y in
-        let m : List Piece = map (shift (length (damaged v a d u))) (segmentsAfter v r 0) in
-        let e : segmentsAfter v s 0 ≡ p ++ (q ++ m) =
-        fit-resync v f gap (a ++ d) u r k
-        ∙ ap (λ (l : List Piece). l ++ m) (ap (pieces v gap 0 0) split ∙ pieces-append v gap 0 0 a y g)
-        ∙ append-assoc p q m in
-        let w : Agree v s a p = subst (λ (l : List ℕ). Agree v l a p) (sym split-all) (agree v a (d ++ (v .terminator ∷ u) ++ v .terminator ∷ [] ++ r)) in
-        record {
-          between = beginning v s q m;
-          same =
-              ap (messagesOf v s) e
-              ∙ messages-append v s p (q ++ m)
-              ∙ ap (λ (l : List Extent). l ++ messagesOf v s (q ++ m)) (begins-same v s a (q ++ m) [] false w h ∙ begins-alone v a [] p)
-              ∙ ap (λ (l : List Extent). allMessages v a ++ l) (messages-append v s q m ∙ ap (λ (l : List Extent). beginning v s q m ++ l) (messages-moved v (damaged v a d u) r (segmentsAfter v r 0)));
-        }
+-- every closed message whose predecessor, if any, is closed too is such a message: there is a terminator before its UNT
+pub targets : (v : Service) (s : List ℕ) (first : ℕ) (before : List Extent) (a e : ℕ) (after : List Extent)
+    → messagesOf v s (bodyOf v s first) ≡ before ++ (closed a e ∷ after) → lastClosed true before ≡ true → (t : ℕ) × Target v s (bodyOf v s first) before a t e after
+targets v s first before a e after m c = target-in v s (bodyOf v s first) (tidy-after (segmentsFrom v s first) (tidy-pieces v _ first first (drop first s))) before a e after m c

@@ -1,7 +1,7 @@
 -- Opening and closing an interchange, as document 01, "Bytes to segments", the table's numbers 1 to 7 and what follows the table say.
 use Prim.Native.Nat.{ℕ}
 use mathlib.Core.List.{List, [], _∷_}
-use mathlib.Core.Bool.{Bool, true, false, _&&_}
+use mathlib.Core.Bool.{Bool, false, _&&_}
 use lib.ListN.{length, drop}
 use lib.Dec.{eqb, ltb, leb}
 use Rattle.service.specs.declared.Service.{Service}
@@ -16,13 +16,13 @@ use Rattle.interchange.specs.declared.Refusal.{Refusal}
 use Rattle.interchange.specs.declared.Opening.{Opening}
 use Rattle.interchange.specs.declared.Opening.the-variants.{Opens, Refused}
 use Rattle.interchange.specs.declared.Closing.{Closing}
-use Rattle.interchange.specs.Messages.{tagAt, UNB, UNZ, startOf, Extent, messagesOf, straysOf}
+use Rattle.interchange.specs.Messages.{tagAt, UNB, UNZ, startOf, messagesOf, straysOf}
 
 -- a reference has 1 to 14 bytes
 unfoldable pub isReference : ℕ → Bool
 isReference n = leb 1 n && leb n 14
 
--- "UNB: syntax version (second component of the first element) 3, control reference (fifth element) 1 to 14 bytes": 307 is the code of "3"
+-- "UNB: syntax version (second component of the first element) 3, control reference (fifth element) 1 to 14 bytes": 307 is the code of "3" (byte 51)
 unfoldable pub isHeader : Service → List ℕ → ℕ → Bool
 isHeader v s i = eqb (tagAt v s i) UNB && (eqb (codeOf (valueIn v i s 1 1)) 307 && isReference (length (valueIn v i s 5 0)))
 

@@ -20,6 +20,10 @@ pub data Within (s : List ℕ) (at : ℕ) : Found → Type 0 where
   none : Within s at Nothing
   cut : Within s at Unfinished
 
+-- a message that begins at start, its end sought from a place behind its first byte
+pub record Sought (s : List ℕ) (start from : ℕ) (r : Found) : Type 0 where
+  pub lies : start < from → start < length s → Within s start r
+
 -- an interchange over 1,048,576 bytes does not open
 pub data Short (s : List ℕ) : Opening → Type 0 where
   opens : (v : Service) (at : ℕ) → length s ≤ 1048576 → Short s (Opens v at)

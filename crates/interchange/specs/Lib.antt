@@ -1,5 +1,6 @@
 pub mod Messages
 pub mod Envelope
+pub mod TagLaws
 pub mod KindLaws
 pub mod FindLaws
 pub mod OpenLaws
@@ -13,8 +14,12 @@ pub mod FirstLaws
 pub mod Damage
 pub mod DamageLaws
 pub mod BeforeLaws
+pub mod TargetLaws
+pub mod ShiftLaws
+pub mod PlaceLaws
+pub mod KeptTheorem
+pub mod ReopenTheorem
 pub mod DamageTheorem
 pub mod ZeroTheorems
-pub mod ReopenTheorem
 pub mod Extent
 pub mod ExtentLaws

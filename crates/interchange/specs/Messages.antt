@@ -15,7 +15,7 @@ use Rattle.interchange.specs.declared.Found.the-variants as found
 unfoldable pub tagAt : Service → List ℕ → ℕ → ℕ
 tagAt v s i = codeOf (valueFrom v i s)
 
--- the codes of the tags UNB, UNH, UNT and UNZ
+-- the codes of the tags U N B (bytes 85 78 66), U N H (85 78 72), U N T (85 78 84) and U N Z (85 78 90); `TagLaws` has that they are these
 abbrev pub UNB : ℕ
 UNB = 22367810
 

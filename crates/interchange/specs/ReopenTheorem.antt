@@ -1,42 +1,47 @@
--- An interchange without UNA still opens after a message in it was damaged. Assumes nothing.
-use Prim.Native.Nat.{ℕ, suc, zero, _+_, _≤_, _<_}
+-- An interchange opens as it did after a message in it was damaged. Assumes nothing.
+use Prim.Native.Nat.{ℕ, _+_, _≤_, _<_}
 use native.Mathlib.Omega.{arith}
 use mathlib.Core.Path.{_≡_, refl, sym, _∙_, ap, subst}
+use mathlib.Core.Logic.{⊎-elim}
 use mathlib.Core.List.{List, [], _∷_, _++_, map, append-assoc}
 use mathlib.Core.Bool.{Bool, true, false, _&&_}
-use lib.ListN.{length, drop, getD}
-use lib.Seq.{drop-append-le}
-use lib.Dec.{eqb}
-use borrow.Author.Tests.{eqb-true}
+use lib.ListN.{length, take, drop, length-drop, take-append-drop}
+use lib.Seq.{length-take-le, drop-append-le}
+use lib.Dec.{T, eqb}
 use Rattle.service.specs.declared.Service.{Service}
 use Rattle.service.specs.declared.Characters.the-variants.{Fit}
-use Rattle.service.specs.Service.{Fits, plainService, beginsUna, charactersOf}
-use Rattle.service.specs.ServiceLaws.{characters-plain, and-left}
-use Rattle.segments.specs.declared.Segment.{Segment}
+use Rattle.service.specs.Service.{Fits, charactersOf}
+use Rattle.service.specs.FitLaws.{characters-fit}
+use Rattle.service.specs.UnaLaws.{characters-alike}
+use Rattle.segments.specs.declared.End.the-variants.{At}
 use Rattle.segments.specs.declared.Segment.the-variants.{Finished}
-use Rattle.segments.specs.Bytes.{pastBreaks}
-use Rattle.segments.specs.Segments.{segmentAt}
-use Rattle.segments.specs.SegmentsLaws.{lies}
+use Rattle.segments.specs.Bytes.{endFrom, pastBreaks}
 use Rattle.segments.specs.SegmentList.{Piece, finished, unfinished, gap, pieces, segmentsFrom, segmentsAfter}
-use Rattle.segments.specs.Sync.{shift, relAfter}
-use Rattle.segments.specs.FitLaws.{fit-resync, fits-sound}
-use Rattle.segments.specs.ListLaws.{segments-after}
+use Rattle.segments.specs.Sync.{shift}
+use Rattle.segments.specs.SyncLaws.{skipped, rest-at}
+use Rattle.segments.specs.PartLaws.{end-more, end-fewer}
+use Rattle.segments.specs.WholeLaws.{breaks-alike}
+use Rattle.segments.specs.ResyncLaws.{gap-start}
+use Rattle.segments.specs.ClosedLaws.{segments-moved}
 use Rattle.parts.specs.Lex.{Tok, lex, valueOf, elements, valueAt}
-use Rattle.parts.specs.PartLaws.{lex-part}
-use Rattle.values.specs.Values.{codeOf}
+use Rattle.parts.specs.PartLaws.{lex-part, value-short}
+use Rattle.values.specs.Numbers.{Bytes}
+use Rattle.values.specs.Values.{valueFrom, codeOf}
 use Rattle.interchange.specs.declared.Opening.the-variants.{Opens}
-use Rattle.interchange.specs.Messages.{tagAt, UNB, UNZ}
-use Rattle.interchange.specs.Envelope.{isReference, isHeader, headed, isUnz, lastUnz, ended, firstAt, openingOf}
-use Rattle.interchange.specs.Opened.{Opened, opened, opens}
+use Rattle.interchange.specs.Messages.{tagAt, UNB, UNT, UNZ, Extent}
+use Rattle.interchange.specs.Envelope.{isReference, isHeader, headed, isUnz, lastUnz, ended, firstAt, openingOf, afterFirst, bodyOf}
+use Rattle.interchange.specs.Opened.{opened, opens}
 use Rattle.interchange.specs.OpenLaws.{headed-at}
+use Rattle.interchange.specs.TagLaws.{tag-unb}
 use Rattle.interchange.specs.WalkTheorems.{header}
-use Rattle.interchange.specs.FirstLaws.{Bytes, at-zero}
+use Rattle.interchange.specs.Damage.{replaced}
 use Rattle.interchange.specs.DamageLaws.{tag-moved}
 use Rattle.interchange.specs.BeforeLaws.{end-is}
-use Rattle.interchange.specs.DamageTheorem.{damaged}
+use Rattle.interchange.specs.PlaceLaws.{Place}
+use Rattle.interchange.specs.KeptTheorem.{closing, untBytes, length-front, low-front, run-front, loose-unt, replaced-is, segments-text}
 
 -- ---- the last segment is that of the rest
-last-append : (v : Service) (s : List ℕ) (b : Bool) (l : List Piece) (p : Piece) (r : List Piece) → lastUnz v s b (l ++ p ∷ r) ≡ lastUnz v s false (p ∷ r)
+last-append : (v : Service) (s : List ℕ) (b : Bool) (l : List Piece) (p : Piece) (r : List Piece) → lastUnz v s b (l ++ (p ∷ r)) ≡ lastUnz v s false (p ∷ r)
 unfolding lastUnz
 last-append v s b [] p r = refl
 last-append v s b (q ∷ l) p r = last-append v s (isUnz v s q) l p r
@@ -50,66 +55,179 @@ unfolding lastUnz
 last-moved v x r b [] = refl
 last-moved v x r b (p ∷ l) = ap (λ (c : Bool). lastUnz v (x ++ r) c (map (shift (length x)) l)) (unz-moved v x r p) ∙ last-moved v x r (isUnz v r p) l
 
-pub ends-again : (v : Service) (f : Fits v) (p u r : List ℕ) → relAfter v false u ≡ false → (q : Piece) (l : List Piece) → segmentsAfter v r 0 ≡ q ∷ l
-    → let x : List ℕ = p ++ (v .terminator ∷ u) ++ v .terminator ∷ [] in ended v (x ++ r) (segmentsAfter v (x ++ r) 0) ≡ ended v r (segmentsAfter v r 0)
-ends-again v f p u r k q l e =
-    let x : List ℕ = p ++ (v .terminator ∷ u) ++ v .terminator ∷ [] in
-    ap (lastUnz v (x ++ r) false) (fit-resync v f gap p u r k ∙ ap (λ (m : List Piece). pieces v gap 0 0 x ++ map (shift (length x)) m) e)
-    ∙ last-append v (x ++ r) false (pieces v gap 0 0 x) (shift (length x) q) (map (shift (length x)) l)
-    ∙ last-moved v x r false (q ∷ l)
-    ∙ ap (lastUnz v r false) (sym e)
+-- behind a UNT stands the UNZ that ends the interchange
+unt-not-last : (v : Service) (s : List ℕ) (b : Bool) (l : List Piece) (u z : ℕ) → tagAt v s u ≡ UNT → lastUnz v s b (l ++ (finished u z ∷ [])) ≡ true → ⊥
+unfolding lastUnz
+unt-not-last v s b l u z e q =
+    let x : eqb (tagAt v s u) UNZ ≡ true = sym (last-append v s b l (finished u z) []) ∙ q in
+    let y : false ≡ true = ap (λ (g : ℕ). eqb g UNZ) (sym e) ∙ x in
+    subst T (sym y) tt
 
--- ---- the first segment is that of what stands before
-module _ (v : Service) (a b : List ℕ) (t n : ℕ) (c : Finished t n ≡ segmentAt v 0 a) where
-  lex-longer : lex v false (drop 0 (a ++ b)) ≡ lex v false (drop 0 a)
-  lex-longer = lex-part v false 0 a b t (end-is v a b 0 (Finished t n) c t n refl)
+-- so the segments r by themselves, where they stand in two texts, end in the same way
+pub same-last : (v : Service) (x x′ r : List ℕ) (b b′ : Bool) (l l′ : List Piece) (u z : ℕ) → tagAt v (x ++ r) u ≡ UNT → (m : List Piece)
+    → lastUnz v (x ++ r) b (l ++ (finished u z ∷ map (shift (length x)) m)) ≡ true → lastUnz v (x′ ++ r) b′ (l′ ++ map (shift (length x′)) m) ≡ true
+unfolding lastUnz
+same-last v x x′ r b b′ l l′ u z e [] q = absurd (unt-not-last v (x ++ r) b l u z e q)
+same-last v x x′ r b b′ l l′ u z e (p ∷ m) q =
+    last-append v (x′ ++ r) b′ l′ (shift (length x′) p) (map (shift (length x′)) m)
+    ∙ last-moved v x′ r false (p ∷ m)
+    ∙ sym (last-moved v x r false (p ∷ m))
+    ∙ sym (last-append v (x ++ r) b l (finished u z) (map (shift (length x)) (p ∷ m)))
+    ∙ q
 
-  header-longer : isHeader v (a ++ b) 0 ≡ isHeader v a 0
+-- ---- the first segment, where the text x holds it
+module _ (v : Service) (x y : List ℕ) (i t : ℕ) (h : i ≤ length x) (g : t < length x) where
+  end-part : endFrom v false i (drop i (x ++ y)) ≡ At t → endFrom v false i (drop i x) ≡ At t
+  end-part e =
+      let n = length-drop i x in
+      let k : t < i + length (drop i x) = omega arith in
+      end-fewer v false i (drop i x) y t (ap (endFrom v false i) (sym (drop-append-le i x y h)) ∙ e) k
+
+  end-whole : endFrom v false i (drop i x) ≡ At t → endFrom v false i (drop i (x ++ y)) ≡ At t
+  end-whole e = ap (endFrom v false i) (drop-append-le i x y h) ∙ end-more v false i (drop i x) y t e
+
+  header-longer : endFrom v false i (drop i x) ≡ At t → isHeader v (x ++ y) i ≡ isHeader v x i
   unfolding isHeader tagAt
-  header-longer =
+  header-longer e =
       ap
       (λ (k : List Tok). eqb (codeOf (valueOf k)) UNB && (eqb (codeOf (valueAt (elements k) 1 1)) 307 && isReference (length (valueAt (elements k) 5 0))))
-      lex-longer
+      (ap (lex v false) (drop-append-le i x y h) ∙ lex-part v false i (drop i x) y t e)
 
-tag-of : (v : Service) (s : List ℕ) → isHeader v s 0 ≡ true → tagAt v s 0 ≡ UNB
-unfolding isHeader
-tag-of v s e = eqb-true (tagAt v s 0) UNB (and-left (eqb (tagAt v s 0) UNB) _ e)
+-- what follows a segment
+pub after-end : (v : Service) (s : List ℕ) (i t : ℕ) → endFrom v false i (drop i s) ≡ At t → segmentsFrom v s i ≡ finished i t ∷ segmentsAfter v s (t + 1)
+after-end v s i t e = rest-at v s i (At t) (sym e) t refl .same ∙ ap (λ (l : List Piece). finished i t ∷ l) (gap-start v 0 (t + 1) (t + 1) (drop (t + 1) s))
 
-module _ (v : Service) (f : Fits v) (a d d′ u r : List ℕ) where
-  -- without UNA and with the first segment before the damaged place, the last one after it, the text opens as it did
-  pub reopens : relAfter v false u ≡ false → (t n : ℕ) → Finished t n ≡ segmentAt v 0 a → (q : Piece) (l : List Piece) → segmentsAfter v r 0 ≡ q ∷ l
-      → let s : List ℕ = damaged v a d u ++ r in
-      let s′ : List ℕ = damaged v a d′ u ++ r in
-      openingOf s ≡ Opens v 0 → Bytes s → Bytes s′ → beginsUna s′ ≡ false → beginsUna s ≡ false → length s′ ≤ 1048576 → openingOf s′ ≡ Opens v 0
+module _ (s : List ℕ) (w : Bytes s) (v : Service) (first : ℕ) (o : openingOf s ≡ Opens v first) where
+  -- the UNB ends here
+  pub unb-end : endFrom v false first (drop first s) ≡ At (header s v first o .term)
+  unb-end = let h = header s v first o in end-is v s [] first (Finished (h .term) (h .next)) (h .at) (h .term) (h .next) refl
+
+  pub body-after : bodyOf v s first ≡ segmentsAfter v s (header s v first o .term + 1)
+  body-after = ap afterFirst (after-end v s first (header s v first o .term) unb-end)
+
+  -- its tag has three bytes
+  unb-long : first + 3 ≤ header s v first o .term
+  unb-long =
+      let h = header s v first o in
+      let e : valueFrom v first s ≡ 85 ∷ 78 ∷ 66 ∷ [] = tag-unb v s first w .0 (h .tag) in
+      let n : length (valueFrom v first s) ≡ 3 = ap length e in
+      let g = value-short v false first (drop first s) (h .term) unb-end in
+      omega arith
+
+  pub unb-within : header s v first o .term + 1 ≤ length s
+  unb-within = let h = rest-at v s first (At (header s v first o .term)) (sym unb-end) (header s v first o .term) refl in let g = h .high in omega arith
+
+  una-low : opened s v first o .una ≤ first
   unfolding firstAt
-  reopens k t n c q l e o w w′ z′ z h =
-      let s : List ℕ = damaged v a d u ++ r in
-      let s′ : List ℕ = damaged v a d′ u ++ r in
-      let i = opened s v 0 o in
-      let y = fits-sound v f in
-      let x : Fit v (i .una) ≡ Fit plainService 0 = sym (i .named) ∙ sym (characters-plain s (beginsUna s) refl z) in
-      let p : plainService ≡ v = cc in
-      let g : s ≡ a ++ (d ++ (v .terminator ∷ u) ++ v .terminator ∷ [] ++ r) = simp append-assoc in
-      let g′ : s′ ≡ a ++ (d′ ++ (v .terminator ∷ u) ++ v .terminator ∷ [] ++ r) = simp append-assoc in
-      let m : isHeader v s′ 0 ≡ true =
-      ap (λ (j : List ℕ). isHeader v j 0) g′
-      ∙ header-longer v a _ t n c
-      ∙ sym (ap (λ (j : List ℕ). isHeader v j 0) g ∙ header-longer v a _ t n c)
-      ∙ sym (headed-at v s 0)
-      ∙ i .heads in
-      let b : segmentsAfter v s 0 ≡ segmentsFrom v s 0 = segments-after v s 0 0 (sym (at-zero v (y .cr) (y .lf) w (header s v 0 o .tag))) in
-      let b′ : segmentsAfter v s′ 0 ≡ segmentsFrom v s′ 0 = segments-after v s′ 0 0 (sym (at-zero v (y .cr) (y .lf) w′ (tag-of v s′ m))) in
-      opens s′ v 0
-      (record {
-        una = 0;
-        short = h;
-        named = sym (characters-plain s′ (beginsUna s′) refl z′) ∙ ap (λ (j : Service). Fit j 0) p;
-        begins = refl;
-        heads = headed-at v s′ 0 ∙ m;
-        closes =
-            ap (ended v s′) (sym b′)
-            ∙ ends-again v f (a ++ d′) u r k q l e
-            ∙ sym (ends-again v f (a ++ d) u r k q l e)
-            ∙ ap (ended v s) b
-            ∙ i .closes;
-      })
+  una-low =
+      let f = opened s v first o in
+      ⊎-elim (λ (e : f .una ≡ 0). omega arith)
+      (λ (e : f .una ≡ 9). let b : pastBreaks 9 (drop 9 s) ≡ first = ap (firstAt s) (sym e) ∙ f .begins in let l = skipped v 9 (drop 9 s) .low in omega arith)
+      (characters-fit s v (f .una) (f .named) .1)
+
+  module _ (f : Fits v) (before : List Extent) (a t e : ℕ) (after : List Extent) (p : Place v s (header s v first o .term + 1) before a t e after) (d : List ℕ) where
+    low : first + 3 < length (take a s)
+    low = let x = unb-long in let y = p .clear .low in let z = length-front v f s (header s v first o .term + 1) before a t e after p in omega arith
+
+    term-low : header s v first o .term < length (take a s)
+    term-low = let y = p .clear .low in let z = length-front v f s (header s v first o .term + 1) before a t e after p in omega arith
+
+    first-low : first ≤ length (take a s)
+    first-low = let x = low in omega arith
+
+    front-end : endFrom v false first (drop first (take a s)) ≡ At (header s v first o .term)
+    front-end =
+        end-part v (take a s) (drop a s) first (header s v first o .term) first-low term-low
+        (ap (λ (y : List ℕ). endFrom v false first (drop first y)) (take-append-drop a s) ∙ unb-end)
+
+    new-end : endFrom v false first (drop first (replaced s a d t)) ≡ At (header s v first o .term)
+    new-end = end-whole v (take a s) (d ++ drop t s) first (header s v first o .term) first-low term-low front-end
+
+    pub new-body : bodyOf v (replaced s a d t) first ≡ segmentsAfter v (replaced s a d t) (header s v first o .term + 1)
+    new-body = ap afterFirst (after-end v (replaced s a d t) first (header s v first o .term) new-end)
+
+    new-heads : headed v (replaced s a d t) (segmentsFrom v (replaced s a d t) first) ≡ true
+    new-heads =
+        headed-at v (replaced s a d t) first
+        ∙ header-longer v (take a s) (d ++ drop t s) first (header s v first o .term) first-low term-low front-end
+        ∙ sym (header-longer v (take a s) (drop a s) first (header s v first o .term) first-low term-low front-end)
+        ∙ ap (λ (y : List ℕ). isHeader v y first) (take-append-drop a s)
+        ∙ sym (headed-at v s first)
+        ∙ opened s v first o .heads
+
+    -- the last segment
+    old-last : lastUnz v (take e s ++ drop e s) (isUnz v s (finished first (header s v first o .term)))
+        (p .most ++ (finished (p .unt) (p .last) ∷ map (shift (length (take e s))) (segmentsAfter v (drop e s) 0)))
+        ≡ true
+    unfolding lastUnz
+    old-last =
+        let b : Bool = isUnz v s (finished first (header s v first o .term)) in
+        let i = p .high in
+        let j = p .ends in
+        let g : e ≤ length s = omega arith in
+        let n : length (take e s) ≡ e = length-take-le e s g in
+        ap (λ (y : List ℕ). lastUnz v y b (p .most ++ (finished (p .unt) (p .last) ∷ map (shift (length (take e s))) (segmentsAfter v (drop e s) 0)))) (take-append-drop e s)
+        ∙ ap (λ (l : List Piece). lastUnz v s b (p .most ++ (finished (p .unt) (p .last) ∷ l)))
+        (ap (λ (k : ℕ). map (shift k) (segmentsAfter v (drop e s) 0)) n ∙ sym (gap-start v e 0 e (drop e s) ∙ segments-moved v e (drop e s)))
+        ∙ ap (lastUnz v s b) (sym (p .whole))
+        ∙ ap (lastUnz v s false) (sym (after-end v s first (header s v first o .term) unb-end))
+        ∙ opened s v first o .closes
+
+    new-closes : ended v (replaced s a d t) (segmentsFrom v (replaced s a d t) first) ≡ true
+    unfolding lastUnz
+    new-closes =
+        let q : ℕ = header s v first o .term + 1 in
+        let u : List ℕ = untBytes s t (p .last) in
+        let x : List ℕ = take a s in
+        let b : Bool = isUnz v s (finished first (header s v first o .term)) in
+        let b′ : Bool = isUnz v (replaced s a d t) (finished first (header s v first o .term)) in
+        let l : List Piece = segmentsAfter v x q in
+        let m : List Piece = pieces v gap 0 (length x) (closing v u d) in
+        let z : List Piece = map (shift (length (x ++ closing v u d))) (segmentsAfter v (drop e s) 0) in
+        ap (lastUnz v (replaced s a d t) false) (after-end v (replaced s a d t) first (header s v first o .term) new-end)
+        ∙ ap (λ (y : List ℕ). lastUnz v y b′ (segmentsAfter v y q)) (replaced-is v f s q before a t e after p d)
+        ∙ ap (lastUnz v (x ++ (closing v u d ++ drop e s)) b′)
+        (segments-text v f x u (drop e s) q (low-front v f s q before a t e after p) (run-front v f s q before a t e after p) (loose-unt v f s q before a t e after p) d ∙ sym (append-assoc l m z))
+        ∙ ap (λ (y : List ℕ). lastUnz v y b′ (l ++ m ++ z)) (sym (append-assoc x (closing v u d) (drop e s)))
+        ∙ same-last v (take e s) (x ++ closing v u d) (drop e s) b b′ (p .most) (l ++ m) (p .unt) (p .last) (ap (λ (y : List ℕ). tagAt v y (p .unt)) (take-append-drop e s) ∙ p .tag-unt)
+        (segmentsAfter v (drop e s) 0) old-last
+
+    -- the first bytes
+    new-named : charactersOf (replaced s a d t) ≡ Fit v (opened s v first o .una)
+    new-named =
+        let x = una-low in
+        let y = low in
+        let g : 3 ≤ length (take a s) = omega arith in
+        let h : opened s v first o .una ≤ length (take a s) = omega arith in
+        characters-alike (take a s) (drop a s) (d ++ drop t s) v (opened s v first o .una) (ap charactersOf (take-append-drop a s) ∙ opened s v first o .named) g h
+
+    new-first : firstAt (replaced s a d t) (opened s v first o .una) ≡ first
+    unfolding firstAt
+    new-first =
+        let i = opened s v first o in
+        ⊎-elim
+        (λ (n : i .una ≡ 0). ap (firstAt (replaced s a d t)) n ∙ ap (firstAt s) (sym n) ∙ i .begins)
+        (λ (n : i .una ≡ 9).
+        let x = una-low in
+        let y = low in
+        let g : 9 ≤ length (take a s) = omega arith in
+        let l = length-drop 9 (take a s) in
+        let k : first < 9 + length (drop 9 (take a s)) = omega arith in
+        let b : pastBreaks 9 (drop 9 s) ≡ first = ap (firstAt s) (sym n) ∙ i .begins in
+        ap (firstAt (replaced s a d t)) n
+        ∙ ap (pastBreaks 9) (drop-append-le 9 (take a s) (d ++ drop t s) g)
+        ∙ breaks-alike v 9 (drop 9 (take a s)) (drop a s) (d ++ drop t s) first
+        (ap (pastBreaks 9) (sym (drop-append-le 9 (take a s) (drop a s) g) ∙ ap (drop 9) (take-append-drop a s)) ∙ b) k)
+        (characters-fit s v (i .una) (i .named) .1)
+
+    pub reopens : length (replaced s a d t) ≤ 1048576 → openingOf (replaced s a d t) ≡ Opens v first
+    reopens h =
+        opens (replaced s a d t) v first
+        (record {
+          una = opened s v first o .una;
+          short = h;
+          named = new-named;
+          begins = new-first;
+          heads = new-heads;
+          closes = new-closes;
+        })

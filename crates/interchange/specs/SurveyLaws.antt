@@ -1,14 +1,14 @@
 -- One turn of the loop that counts messages and strays, and what closing makes of the counts. Each premise is a fact that a proof has at hand.
 -- Assumes nothing.
-use Prim.Native.Nat.{ℕ, suc, _+_, _≤_, _<_}
+use Prim.Native.Nat.{ℕ, _+_, _-_, _≤_, _<_}
 use native.Mathlib.Decide.{decLt}
 use native.Mathlib.Omega.{arith}
 use mathlib.Core.Path.{_≡_, refl, sym, _∙_, ap}
 use mathlib.Core.List.{List, [], _∷_}
 use mathlib.Core.Bool.{Bool, true, false, not}
 use lib.ListN.{length, drop}
-use lib.Dec.{eqb, ltb, leb}
-use borrow.Author.Tests.{eq-eqb, ne-eqb, eqb-true, eqb-false}
+use lib.Dec.{eqb, leb}
+use borrow.Author.Tests.{eqb-true, eqb-false}
 use Rattle.service.specs.declared.Service.{Service}
 use Rattle.segments.specs.declared.End.{End}
 use Rattle.segments.specs.declared.End.the-variants.{At, None}
@@ -17,19 +17,13 @@ use Rattle.segments.specs.declared.Segment.the-variants as segment
 use Rattle.segments.specs.Classes.{if}
 use Rattle.segments.specs.Bytes.{endFrom}
 use Rattle.segments.specs.Segments.{segmentBy, segmentAt}
-use Rattle.segments.specs.SegmentsLaws.{segment-nothing, segment-by, lies}
-use Rattle.segments.specs.SegmentList.{Piece, finished, unfinished, Mode, gap, first, inside, held, after, ends, startIn, emit, left, pieces, segmentsFrom}
+use Rattle.segments.specs.SegmentsLaws.{segment-by, lies}
+use Rattle.segments.specs.SegmentList.{Piece, finished, segmentsFrom}
 use Rattle.segments.specs.SyncLaws.{rest-nothing}
 use Rattle.segments.specs.ListLaws.{listBy, segments-at, list-nothing, list-finished, list-unfinished}
-use Rattle.parts.specs.Lex.{lex, valueOf}
-use Rattle.values.specs.Values.{valueFrom, valueIn, sameList, numberOf, isNumber}
-use Rattle.interchange.specs.declared.Refusal.{Refusal}
-use Rattle.interchange.specs.declared.Opening.{Opening}
-use Rattle.interchange.specs.declared.Opening.the-variants.{Opens, Refused}
 use Rattle.interchange.specs.declared.Survey.{Survey}
-use Rattle.interchange.specs.declared.Closing.{Closing}
-use Rattle.interchange.specs.Messages.{tagAt, UNH, UNT, UNZ, startOf, isNone, Kind, head, trailer, last, other, cut, kindBy, kindOf, Extent, extentOf, messagesBy, messagesOf, stays, strayBy, straysOf}
-use Rattle.interchange.specs.Envelope.{isUnz, lastUnz, ended, headed, firstAt, refusal, openedBy, openingBy, openingOf, afterFirst, lastStart, closingNumber, bodyOf, messageCount, strayCount, closedBy, closingBy, closingOf}
+use Rattle.interchange.specs.Messages.{tagAt, UNH, UNT, startOf, Kind, head, trailer, last, other, cut, kindBy, kindOf, extentOf, messagesBy, messagesOf, stays, strayBy, straysOf}
+use Rattle.interchange.specs.Envelope.{afterFirst, bodyOf}
 use Rattle.interchange.specs.KindLaws.{isEnd, end-list, kind-head, kind-trailer, kind-last, kind-other, kind-at}
 
 -- where the segment after the one at a position begins, or the end of the bytes
@@ -81,15 +75,20 @@ stopBy last i on = i
 stopBy other i on = on
 stopBy cut i on = i
 
-unfoldable pub stopOf : Service → List ℕ → List Piece → ℕ
-stopOf v s [] = length s
-stopOf v s (p ∷ l) = stopBy (kindOf v s p l) (startOf p) (stopOf v s l)
+-- where it stops among the segments l, or, of none, what is given
+unfoldable pub stopOf : Service → List ℕ → ℕ → List Piece → ℕ
+stopOf v s far [] = far
+stopOf v s far (p ∷ l) = stopBy (kindOf v s p l) (startOf p) (stopOf v s far l)
 
--- what the count finds among the segments l
-pub record Surveyed (v : Service) (s : List ℕ) (l : List Piece) (r : Survey) : Type 0 where
-  pub counted : r .messages ≡ length (messagesOf v s l)
-  pub strayed : r .strays ≡ length (straysOf v s false l)
-  pub stopped : r .end ≡ stopOf v s l
+-- the end of n bytes, or a place past it
+abbrev pub farther : ℕ → ℕ → ℕ
+farther at n = at + (n - at)
+
+-- what the count finds among the segments from at on
+pub record Surveyed (v : Service) (s : List ℕ) (at : ℕ) (r : Survey) : Type 0 where
+  pub counted : r .messages ≡ length (messagesOf v s (segmentsFrom v s at))
+  pub strayed : r .strays ≡ length (straysOf v s false (segmentsFrom v s at))
+  pub stopped : r .end ≡ stopOf v s (farther at (length s)) (segmentsFrom v s at)
 
 -- ---- one turn
 pub nothing-past : (v : Service) (s : List ℕ) (i : ℕ) (k : Segment) → k ≡ segmentAt v i s → k ≡ segment.Nothing → length s ≤ i
@@ -102,6 +101,10 @@ nothing-past v s i k c e = go (decLt i (length s))
     go : Dec (i < length s) → length s ≤ i
     go (yes h) = absurd (not-by (endFrom v false i (drop i s)) (segment-by v s i h (endFrom v false i (drop i s)) refl ∙ sym c ∙ e))
     go (no g) = omega arith
+
+-- the next segment begins within the bytes
+pub far-keep : (v : Service) (s : List ℕ) (i : ℕ) (k : Segment) → k ≡ segmentAt v i s → (t n : ℕ) → k ≡ segment.Finished t n → (at : ℕ) → n ≤ farther at (length s)
+far-keep v s i k c t n e at = let w = lies v s i k c t n e in omega arith
 
 -- where no finished segment is left
 module _ (v : Service) (s : List ℕ) (i : ℕ) where
@@ -117,13 +120,13 @@ module _ (v : Service) (s : List ℕ) (i : ℕ) where
   none-strayed r segment.Unfinished c f = rw (list-unfinished v s i segment.Unfinished c refl)
   none-strayed r segment.Nothing c f = rw (list-nothing v s i segment.Nothing c refl)
 
-  none-stopped : i ≤ length s → (k : Segment) → k ≡ segmentAt v i s → ((t n : ℕ) → k ≡ segment.Finished t n → ⊥) → i ≡ stopOf v s (segmentsFrom v s i)
+  none-stopped : (at : ℕ) → at ≤ i → i ≤ farther at (length s) → (k : Segment) → k ≡ segmentAt v i s → ((t n : ℕ) → k ≡ segment.Finished t n → ⊥) → i ≡ stopOf v s (farther at (length s)) (segmentsFrom v s i)
   unfolding stopOf
-  none-stopped h (segment.Finished t n) c f = absurd (f t n refl)
-  none-stopped h segment.Unfinished c f = rw (list-unfinished v s i segment.Unfinished c refl)
-  none-stopped h segment.Nothing c f =
+  none-stopped at l h (segment.Finished t n) c f = absurd (f t n refl)
+  none-stopped at l h segment.Unfinished c f = rw (list-unfinished v s i segment.Unfinished c refl)
+  none-stopped at l h segment.Nothing c f =
       let g = nothing-past v s i segment.Nothing c refl in
-      let e : i ≡ length s = omega arith in
+      let e : i ≡ farther at (length s) = omega arith in
       rw (list-nothing v s i segment.Nothing c refl) e
 
   module _ (k : Segment) (c : k ≡ segmentAt v i s) (f : (t n : ℕ) → k ≡ segment.Finished t n → ⊥) where
@@ -133,8 +136,8 @@ module _ (v : Service) (s : List ℕ) (i : ℕ) where
     pub stray-done : (x m : ℕ) (r : Bool) → x ≡ m + length (straysOf v s r (segmentsFrom v s i)) → m ≡ x
     stray-done x m r inv = let w = ap length (none-strayed r k c f) in omega arith
 
-    pub stop-done : i ≤ length s → (x : ℕ) → x ≡ stopOf v s (segmentsFrom v s i) → i ≡ x
-    stop-done h x inv = none-stopped h k c f ∙ sym inv
+    pub stop-done : (at : ℕ) → at ≤ i → i ≤ farther at (length s) → (x : ℕ) → x ≡ stopOf v s (farther at (length s)) (segmentsFrom v s i) → i ≡ x
+    stop-done at l h x inv = none-stopped at l h k c f ∙ sym inv
 
   -- at a finished segment
   module _ (k : Segment) (c : k ≡ segmentAt v i s) (t n : ℕ) (e : k ≡ segment.Finished t n) (g : ℕ) (q : g ≡ tagAt v s i) where
@@ -146,9 +149,9 @@ module _ (v : Service) (s : List ℕ) (i : ℕ) where
     unfolding straysOf
     strays-by r j w = rw (list-finished v s i k c t n e, kind-at v s i t n g q, w)
 
-    stop-by : (j : Kind) → kindBy g (leb (length s) n) ≡ j → stopOf v s (segmentsFrom v s i) ≡ stopBy j i (stopOf v s (segmentsFrom v s n))
+    stop-by : (far : ℕ) (j : Kind) → kindBy g (leb (length s) n) ≡ j → stopOf v s far (segmentsFrom v s i) ≡ stopBy j i (stopOf v s far (segmentsFrom v s n))
     unfolding stopOf
-    stop-by j w = rw (list-finished v s i k c t n e, kind-at v s i t n g q, w)
+    stop-by far j w = rw (list-finished v s i k c t n e, kind-at v s i t n g q, w)
 
     module _ (b : Bool) (d : b ≡ isEnd s g n) where
       -- the end UNZ
@@ -164,8 +167,8 @@ module _ (v : Service) (s : List ℕ) (i : ℕ) where
         unfolding straysOf
         stray-last x m r inv = let w = ap length (strays-by r last (kind-last s g n b d y) ∙ ap (straysOf v s false) no-more) in omega arith
 
-        pub stop-last : (x : ℕ) → x ≡ stopOf v s (segmentsFrom v s i) → i ≡ x
-        stop-last x inv = sym (inv ∙ stop-by last (kind-last s g n b d y))
+        pub stop-last : (far x : ℕ) → x ≡ stopOf v s far (segmentsFrom v s i) → i ≡ x
+        stop-last far x inv = sym (inv ∙ stop-by far last (kind-last s g n b d y))
 
       module _ (y : b ≡ false) where
         -- a UNH
@@ -176,8 +179,8 @@ module _ (v : Service) (s : List ℕ) (i : ℕ) where
           pub stray-head : (x m : ℕ) (r : Bool) → x ≡ m + length (straysOf v s r (segmentsFrom v s i)) → x ≡ m + length (straysOf v s true (segmentsFrom v s n))
           stray-head x m r inv = let w = ap length (strays-by r head (kind-head g (leb (length s) n) z)) in omega arith
 
-          pub stop-head : (x : ℕ) → x ≡ stopOf v s (segmentsFrom v s i) → x ≡ stopOf v s (segmentsFrom v s n)
-          stop-head x inv = inv ∙ stop-by head (kind-head g (leb (length s) n) z)
+          pub stop-head : (far x : ℕ) → x ≡ stopOf v s far (segmentsFrom v s i) → x ≡ stopOf v s far (segmentsFrom v s n)
+          stop-head far x inv = inv ∙ stop-by far head (kind-head g (leb (length s) n) z)
 
         -- no UNH: a UNT or any other
         module _ (z : g ≡ UNH → ⊥) where
@@ -192,10 +195,10 @@ module _ (v : Service) (s : List ℕ) (i : ℕ) where
               same true = refl
               same false = refl
 
-          pub stop-on : (x : ℕ) → x ≡ stopOf v s (segmentsFrom v s i) → x ≡ stopOf v s (segmentsFrom v s n)
-          stop-on x inv = inv ∙ stop-by (if (eqb g UNT) trailer other) (rest-by (eqb g UNT) refl) ∙ same (eqb g UNT)
+          pub stop-on : (far x : ℕ) → x ≡ stopOf v s far (segmentsFrom v s i) → x ≡ stopOf v s far (segmentsFrom v s n)
+          stop-on far x inv = inv ∙ stop-by far (if (eqb g UNT) trailer other) (rest-by (eqb g UNT) refl) ∙ same (eqb g UNT)
             where
-              same : (u : Bool) → stopBy (if u trailer other) i (stopOf v s (segmentsFrom v s n)) ≡ stopOf v s (segmentsFrom v s n)
+              same : (u : Bool) → stopBy (if u trailer other) i (stopOf v s far (segmentsFrom v s n)) ≡ stopOf v s far (segmentsFrom v s n)
               same true = refl
               same false = refl
 

@@ -3,8 +3,13 @@ use Prim.Native.Nat.{ℕ}
 use mathlib.Core.Path.{_≡_}
 use mathlib.Core.List.{List, [], _∷_}
 use Rattle.service.specs.declared.Service.{Service}
+use Rattle.segments.specs.SegmentList.{segmentsAfter}
 use Rattle.interchange.specs.declared.Found.the-variants as found
-use Rattle.interchange.specs.Messages.{Extent, startsAt, endsAt, foundFrom}
+use Rattle.interchange.specs.Messages.{Extent, startsAt, endsAt, messagesOf, foundFrom}
+
+-- all messages of a text, read from its first byte
+abbrev pub allMessages : Service → List ℕ → List Extent
+allMessages v s = messagesOf v s (segmentsAfter v s 0)
 
 -- "gives its start and its end, which is the next position": walking from a position again and again visits these messages, in this order, and then
 -- answers that none is left

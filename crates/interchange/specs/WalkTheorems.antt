@@ -1,9 +1,8 @@
 -- Walking an interchange that opens. Assumes nothing.
-use Prim.Native.Nat.{ℕ, suc, _+_, _≤_, _<_}
-use native.Mathlib.Omega.{arith}
+use Prim.Native.Nat.{ℕ, _+_}
 use mathlib.Core.Path.{_≡_, refl, sym, _∙_, ap, subst}
 use mathlib.Core.List.{List, [], _∷_}
-use mathlib.Core.Bool.{Bool, true, false, _&&_}
+use mathlib.Core.Bool.{Bool, true, false}
 use lib.ListN.{length, drop}
 use lib.Dec.{T, eqb}
 use borrow.Author.Tests.{eqb-true}
@@ -13,13 +12,13 @@ use Rattle.segments.specs.declared.Segment.{Segment}
 use Rattle.segments.specs.declared.Segment.the-variants as segment
 use Rattle.segments.specs.Bytes.{pastBreaks}
 use Rattle.segments.specs.Segments.{segmentAt}
-use Rattle.segments.specs.SegmentList.{Piece, finished, unfinished, segmentsFrom, segmentsAfter, pieces}
+use Rattle.segments.specs.SegmentList.{Piece, finished, unfinished, segmentsFrom, segmentsAfter}
 use Rattle.segments.specs.ListLaws.{list-nothing, list-finished, list-unfinished, segments-after}
 use Rattle.interchange.specs.declared.Opening.the-variants.{Opens}
 use Rattle.interchange.specs.declared.Closing.{Closing}
-use Rattle.interchange.specs.Messages.{tagAt, UNB, UNH, isNone, Kind, other, kindBy, kindOf, Extent, messagesOf, cutAny, foundIn, foundFrom}
-use Rattle.interchange.specs.Envelope.{isHeader, headed, isUnz, lastUnz, ended, openingOf, afterFirst, bodyOf, closedBy, closingBy, closingOf}
-use Rattle.interchange.specs.Opened.{Opened, opened}
+use Rattle.interchange.specs.Messages.{tagAt, UNB, messagesOf, cutAny, foundIn, foundFrom}
+use Rattle.interchange.specs.Envelope.{isHeader, headed, isUnz, lastUnz, openingOf, afterFirst, bodyOf, closedBy, closingBy, closingOf}
+use Rattle.interchange.specs.Opened.{opened}
 use Rattle.interchange.specs.CloseLaws.{Tidy, nil, one, more, tidy-pieces}
 use Rattle.interchange.specs.SurveyLaws.{pastAt, past-finished}
 use Rattle.interchange.specs.Walk.{Walks, Own}
@@ -36,6 +35,7 @@ no-cut v s b (more a t l w) e = no-cut v s (isUnz v s (finished a t)) w e
 pub record Header (v : Service) (s : List ℕ) (first : ℕ) : Type 0 where
   pub term : ℕ
   pub next : ℕ
+  pub at : segment.Finished term next ≡ segmentAt v first s
   pub here : segmentsFrom v s first ≡ finished first term ∷ segmentsFrom v s next
   pub past : next ≡ pastAt v s first
   pub rests : pastBreaks next (drop next s) ≡ next
@@ -57,6 +57,7 @@ header-by v s first h w (segment.Finished t n) c =
     let x = next-is v s first (segment.Finished t n) c t n refl in record {
       term = t;
       next = n;
+      at = c;
       here = f;
       past = past-finished v s first (segment.Finished t n) c t n refl;
       rests = settled v s (t + 1) n x;

@@ -1,14 +1,12 @@
 // The envelope of an interchange, and where its messages lie.
-ghost use Prim.Native.Nat.{ℕ, _≤_, _<_};
 ghost use mathlib.Core.Path.{_≡_};
-ghost use lib.ListN.{length};
 ghost use Rattle.segments.specs.SegmentList.{segmentsFrom};
 ghost use Rattle.interchange.specs.Messages.{tagAt, foundFrom};
 ghost use Rattle.interchange.specs.Envelope.{isReference, isHeader, ended, firstAt, refusal, openedBy, openingOf, closingNumber, closingOf};
 ghost use Rattle.interchange.specs.KindLaws.{isEnd};
 ghost use Rattle.interchange.specs.FindLaws.{endFound};
 ghost use Rattle.interchange.specs.SurveyLaws.{Surveyed, pastAt};
-ghost use Rattle.interchange.specs.Extent.{Within, Short};
+ghost use Rattle.interchange.specs.Extent.{Within, Sought, Short};
 use segments::Segment;
 use service::Characters;
 use service::Service;
@@ -135,9 +133,7 @@ fn first_segment(s: &[u8], una: usize) -> usize
 }
 
 fn open_with(s: &[u8], v: Service, una: usize) -> Opening
-    requires { ⌜ length (now s) ≤ 1048576 ⌝ }
     ensures { λ r. ⌜ r ≡ openedBy v (now (s .entry)) (firstAt (now (s .entry)) una) ⌝ }
-    ensures { λ r. ⌜ Short (now (s .entry)) r ⌝ }
 {
     let first = first_segment(s, una);
     if is_header(s, first, v) {
@@ -176,9 +172,8 @@ fn is_end(s: &[u8], tag: u64, next: usize) -> bool
 
 // The end of the message that begins at `start`, sought from the segment at `from` on.
 fn find_end(s: &[u8], start: usize, from: usize, v: Service) -> Found
-    requires { ⌜ (start < from) × (start < length (now s)) ⌝ }
     ensures { λ r. ⌜ r ≡ endFound v (now (s .entry)) start (segmentsFrom v (now (s .entry)) from) ⌝ }
-    ensures { λ r. ⌜ Within (now (s .entry)) start r ⌝ }
+    ensures { λ r. ⌜ Sought (now (s .entry)) start from r ⌝ }
 {
     let mut i = from;
     loop {
@@ -234,8 +229,7 @@ pub fn find(s: &[u8], at: usize, v: Service) -> Found
 
 // The messages and the strays among the segments from `at` on, up to the end UNZ.
 fn survey_of(s: &[u8], at: usize, v: Service) -> Survey
-    requires { ⌜ at ≤ length (now s) ⌝ }
-    ensures { λ r. ⌜ Surveyed v (now (s .entry)) (segmentsFrom v (now (s .entry)) at) r ⌝ }
+    ensures { λ r. ⌜ Surveyed v (now (s .entry)) at r ⌝ }
 {
     let mut i = at;
     let mut inside = false;

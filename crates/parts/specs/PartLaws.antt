@@ -1,18 +1,17 @@
 -- A segment read in a part of the text that holds its terminator is read as in the whole: the same tokens, and so the same values. Assumes nothing.
-use Prim.Native.Nat.{ℕ, suc, zero, _+_, _-_, _≤_, _<_}
+use Prim.Native.Nat.{ℕ, suc, _+_, _≤_}
 use native.Mathlib.Omega.{arith}
-use mathlib.Core.Path.{_≡_, refl, sym, _∙_, ap}
+use mathlib.Core.Path.{_≡_, refl, _∙_, ap}
 use mathlib.Core.List.{List, [], _∷_, _++_}
 use mathlib.Core.Bool.{Bool, true, false}
 use lib.ListN.{length, drop}
 use Rattle.service.specs.declared.Service.{Service}
 use Rattle.segments.specs.declared.Class.{Class}
 use Rattle.segments.specs.declared.Class.the-variants.{Plain, Comp, Elem, Rel, Term}
-use Rattle.segments.specs.declared.End.{End}
-use Rattle.segments.specs.declared.End.the-variants.{At, None}
+use Rattle.segments.specs.declared.End.the-variants.{At}
 use Rattle.segments.specs.Bytes.{classOf, endBy, endFrom}
-use Rattle.segments.specs.PartLaws.{part-drop}
-use Rattle.parts.specs.Parts.{Tok, byte, comp, elem, lex, lexBy, elements, valueAt}
+use Rattle.segments.specs.PartLaws.{part-drop, end-low}
+use Rattle.parts.specs.Parts.{Tok, byte, comp, elem, lex, lexBy, elements, valueAt, valueOf}
 
 -- by the next byte: the tokens do not change with what follows the end
 ends-by : (v : Service) (i b : ℕ) (l l′ : List ℕ) (t : ℕ) (k : Class) → ((q : Bool) → endFrom v q (suc i) l ≡ At t → lex v q (l ++ l′) ≡ lex v q l)
@@ -37,3 +36,19 @@ module _ (v : Service) (p q z : List ℕ) (i t : ℕ) (h : i ≤ length q) (e : 
 
   pub value-in-part : (n c : ℕ) → valueAt (elements (lex v false (drop (length p + i) (p ++ q ++ z)))) n c ≡ valueAt (elements (lex v false (drop i q))) n c
   value-in-part n c = ap (λ (w : List Tok). valueAt (elements w) n c) tokens-in-part
+
+-- the value that a segment begins with stands before its terminator
+short-by : (v : Service) (i b : ℕ) (l : List ℕ) (t : ℕ) (k : Class) → ((q : Bool) → endFrom v q (suc i) l ≡ At t → suc i + length (valueOf (lex v q l)) ≤ t)
+    → endBy k i (endFrom v true (suc i) l) (endFrom v false (suc i) l) ≡ At t → i + length (valueOf (lexBy k b (lex v true l) (lex v false l))) ≤ t
+unfolding valueOf
+short-by v i b l t Plain ih e = let w = ih false e in omega arith
+short-by v i b l t Comp ih e = let w = end-low v false (suc i) l t e in omega arith
+short-by v i b l t Elem ih e = let w = end-low v false (suc i) l t e in omega arith
+short-by v i b l t Rel ih e = let w = ih true e in omega arith
+short-by v i b l t Term ih e = let w : i ≡ t = cc in omega arith
+
+pub value-short : (v : Service) (r : Bool) (i : ℕ) (l : List ℕ) (t : ℕ) → endFrom v r i l ≡ At t → i + length (valueOf (lex v r l)) ≤ t
+unfolding endFrom lex valueOf
+value-short v r i [] t e = absurd (let z : _≡_ {A = ℕ} 0 1 = cc in omega arith)
+value-short v true i (b ∷ l) t e = let w = value-short v false (suc i) l t e in omega arith
+value-short v false i (b ∷ l) t e = short-by v i b l t (classOf v b) (λ (q : Bool) w. value-short v q (suc i) l t w) e

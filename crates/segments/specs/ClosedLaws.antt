@@ -1,5 +1,5 @@
 -- A text whose segments are all finished leaves nothing open; and the segments of a part of a text. Assumes nothing.
-use Prim.Native.Nat.{ℕ, suc, zero, _+_}
+use Prim.Native.Nat.{ℕ, suc, _+_}
 use native.Mathlib.Nat.{zero-add, add-zero}
 use mathlib.Core.Path.{_≡_, refl, sym, _∙_, ap, subst}
 use mathlib.Core.List.{List, [], _∷_, _++_, map}
@@ -10,7 +10,7 @@ use Rattle.service.specs.declared.Service.{Service}
 use Rattle.segments.specs.declared.Class.{Class}
 use Rattle.segments.specs.declared.Class.the-variants.{Plain, Comp, Elem, Rel, Term}
 use Rattle.segments.specs.Classes.{if, classOf, isBreak}
-use Rattle.segments.specs.SegmentList.{Piece, finished, unfinished, Mode, gap, first, inside, held, mode, after, ends, startIn, emit, left, pieces, allFinished}
+use Rattle.segments.specs.SegmentList.{Piece, Mode, gap, first, inside, held, mode, after, ends, startIn, emit, left, pieces, allFinished}
 use Rattle.segments.specs.Sync.{run, shift}
 use Rattle.segments.specs.ResyncLaws.{gap-start, pieces-append, pieces-shift}
 
@@ -58,11 +58,12 @@ closed-by v m st i (b ∷ a) e w = closed-by v (after v m b) (startIn m st i) (s
 pub closed : (v : Service) (st i : ℕ) (a : List ℕ) → allFinished (pieces v gap st i a) ≡ true → run v gap a ≡ gap
 closed v st i a w = closed-by v gap st i a refl w
 
-moved : (v : Service) (k : ℕ) (s : List ℕ) → pieces v gap 0 k s ≡ map (shift k) (pieces v gap 0 0 s)
-moved v k s = rw (add-zero k) at (gap-start v 0 (k + 0) (k + 0) s) ∙ rw (add-zero k) at (pieces-shift v gap k 0 0 s)
+-- a text that stands further on
+pub segments-moved : (v : Service) (k : ℕ) (s : List ℕ) → pieces v gap 0 k s ≡ map (shift k) (pieces v gap 0 0 s)
+segments-moved v k s = rw (add-zero k) at (gap-start v 0 (k + 0) (k + 0) s) ∙ rw (add-zero k) at (pieces-shift v gap k 0 0 s)
 
 -- two texts, the first of which has no unfinished segment: its segments, and those of the second where it stands
 pub segments-append : (v : Service) (a b : List ℕ) → allFinished (pieces v gap 0 0 a) ≡ true → pieces v gap 0 0 (a ++ b) ≡ pieces v gap 0 0 a ++ map (shift (length a)) (pieces v gap 0 0 b)
 segments-append v a b w =
     pieces-append v gap 0 0 a b (closed v 0 0 a w)
-    ∙ ap (λ (l : List Piece). pieces v gap 0 0 a ++ l) (ap (λ (k : ℕ). pieces v gap 0 k b) (zero-add (length a)) ∙ moved v (length a) b)
+    ∙ ap (λ (l : List Piece). pieces v gap 0 0 a ++ l) (ap (λ (k : ℕ). pieces v gap 0 k b) (zero-add (length a)) ∙ segments-moved v (length a) b)

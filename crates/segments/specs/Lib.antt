@@ -14,3 +14,5 @@ pub mod Ends
 pub mod EndsLaws
 pub mod ClosedLaws
 pub mod WholeLaws
+pub mod ClearLaws
+pub mod UnaLaws

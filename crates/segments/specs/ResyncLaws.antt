@@ -1,19 +1,20 @@
 -- The segments of two texts one after the other and of a text further on; and how segments are found again after any damage: from the second
 -- terminator on, what stood before does not matter. Assumes nothing.
-use Prim.Native.Nat.{ℕ, suc, zero, _+_}
+use Prim.Native.Nat.{ℕ, suc, _+_}
 use native.Mathlib.Nat.{zero-add, add-zero, add-suc, suc-add}
+use native.Mathlib.Omega.{arith}
 use mathlib.Core.Path.{_≡_, refl, sym, _∙_, ap, subst}
 use mathlib.Core.Logic.{_⊎_, inl, inr, ⊎-elim}
-use mathlib.Core.List.{List, [], _∷_, _++_, map, append-assoc}
+use mathlib.Core.List.{List, [], _∷_, _++_, map}
 use mathlib.Core.Bool.{Bool, true, false}
-use lib.ListN.{length, length-append}
+use lib.ListN.{length}
 use lib.Dec.{T, eqb}
 use borrow.Author.Tests.{eqb-true}
 use Rattle.service.specs.declared.Service.{Service}
 use Rattle.segments.specs.declared.Class.{Class}
 use Rattle.segments.specs.declared.Class.the-variants.{Plain, Comp, Elem, Rel, Term}
 use Rattle.segments.specs.Classes.{if, classOf, isBreak}
-use Rattle.segments.specs.SegmentList.{Piece, finished, unfinished, Mode, gap, first, inside, held, mode, ended, after, ends, startIn, emit, left, pieces}
+use Rattle.segments.specs.SegmentList.{Piece, Mode, gap, first, inside, held, mode, after, ends, startIn, emit, left, pieces}
 use Rattle.segments.specs.Sync.{run, shift, relBy, relNext, relAfter, Sound}
 
 -- ---- two texts one after the other
@@ -103,6 +104,17 @@ module _ (v : Service) (ok : Sound v) where
   unfolding relAfter run
   loose-run m [] = refl
   loose-run m (b ∷ s) = ap (λ (r : Bool). relAfter v r s) (loose-next m b) ∙ loose-run (after v m b) s
+
+  not-held : (m : Mode) (b : ℕ) → after v m b ≡ gap → loose m ≡ false
+  not-held gap b e = refl
+  not-held first b e = refl
+  not-held inside b e = refl
+  not-held held b e = absurd (let z : _≡_ {A = ℕ} 0 1 = cc in omega arith)
+
+  -- what stands before a byte that ends a segment leaves nothing released
+  pub loose-before : (u : List ℕ) (b : ℕ) → run v gap (u ++ b ∷ []) ≡ gap → relAfter v false u ≡ false
+  unfolding run
+  loose-before u b e = loose-run gap u ∙ not-held (run v gap u) b (sym (run-append v gap u (b ∷ [])) ∙ e)
 
   module _ (t : ℕ) (c : classOf v t ≡ Term) (n : isBreak t ≡ false) where
     -- a terminator leaves nothing released; where nothing is released it ends a segment

@@ -88,9 +88,6 @@ module _ (v : Service) (s : List ℕ) (i : ℕ) (k : Segment) (c : k ≡ segment
   pub less-segment : length s - n < length s - i
   less-segment = let w = lies v s i k c t n e in omega arith
 
-  pub segment-within : n ≤ length s
-  segment-within = lies v s i k c t n e .within
-
   pub segment-on : i ≤ n
   segment-on = let w = lies v s i k c t n e in omega arith
 

@@ -1,7 +1,6 @@
 -- The segment at a place of a part of a text is the segment at that place of the whole. Assumes nothing.
-use Prim.Native.Nat.{ℕ, suc, zero, _+_, _≤_, _<_}
-use native.Mathlib.Nat.{add-suc, add-assoc}
-use native.Mathlib.Decide.{decLt}
+use Prim.Native.Nat.{ℕ, suc, _+_, _≤_, _<_}
+use native.Mathlib.Nat.{add-suc}
 use native.Mathlib.Omega.{arith}
 use mathlib.Core.Path.{_≡_, refl, sym, _∙_, ap, subst}
 use mathlib.Core.List.{List, [], _∷_, _++_}
@@ -11,13 +10,12 @@ use lib.Dec.{eqb}
 use Rattle.service.specs.declared.Service.{Service}
 use Rattle.segments.specs.declared.End.{End}
 use Rattle.segments.specs.declared.End.the-variants.{At, None}
-use Rattle.segments.specs.declared.Segment.{Segment}
-use Rattle.segments.specs.declared.Segment.the-variants.{Finished, Unfinished, Nothing}
+use Rattle.segments.specs.declared.Segment.the-variants.{Finished}
 use Rattle.segments.specs.Classes.{if}
 use Rattle.segments.specs.Bytes.{endFrom, pastBreaks}
 use Rattle.segments.specs.Segments.{segmentBy, segmentAt}
-use Rattle.segments.specs.SyncLaws.{rest-at, skipped}
-use Rattle.segments.specs.SegmentsLaws.{segment-nothing, segment-by, segment-finished, lies}
+use Rattle.segments.specs.SyncLaws.{skipped}
+use Rattle.segments.specs.SegmentsLaws.{segment-by, segment-finished, lies}
 use Rattle.segments.specs.PartLaws.{part-drop, end-in-whole}
 
 -- ---- breaks further on
@@ -46,6 +44,19 @@ breaks-more v i [] z h = absurd (omega arith)
 breaks-more v i (b ∷ l) z h =
     let e : i + length (b ∷ l) ≡ suc i + length l = omega arith in
     more-by i _ _ (eqb b 13) (eqb b 10) (suc i + length l) (λ (g : pastBreaks (suc i) l < suc i + length l). breaks-more v (suc i) l z g) (subst (λ (n : ℕ). pastBreaks i (b ∷ l) < n) e h)
+
+-- the breaks of two texts that begin alike end at the same place, if that lies in what is alike
+alike-by : (i x y p : ℕ) (t u : Bool) → (y ≡ p → x ≡ p) → if t y (if u y i) ≡ p → if t x (if u x i) ≡ p
+alike-by i x y p true u ih e = ih e
+alike-by i x y p false true ih e = ih e
+alike-by i x y p false false ih e = e
+
+pub breaks-alike : (v : Service) (i : ℕ) (l z z′ : List ℕ) (p : ℕ) → pastBreaks i (l ++ z) ≡ p → p < i + length l → pastBreaks i (l ++ z′) ≡ p
+unfolding pastBreaks
+breaks-alike v i [] z z′ p e h = let w = breaks-low v i z in absurd (omega arith)
+breaks-alike v i (b ∷ l) z z′ p e h =
+    let g : p < suc i + length l = omega arith in
+    alike-by i _ _ p (eqb b 13) (eqb b 10) (λ q. breaks-alike v (suc i) l z z′ p q g) e
 
 -- ---- a segment that is finished in the part, and behind which the part goes on
 module _ (v : Service) (p q z : List ℕ) (i t n : ℕ) where

@@ -2,3 +2,4 @@ pub mod Service
 pub mod ServiceLaws
 pub mod FitLaws
 pub mod Unique
+pub mod UnaLaws

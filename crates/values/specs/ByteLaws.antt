@@ -1,16 +1,16 @@
 -- The values of a text of bytes are bytes. Assumes nothing.
 use Prim.Native.Nat.{ℕ, suc, zero, _+_, _<_}
 use native.Mathlib.Omega.{arith}
-use mathlib.Core.Path.{_≡_, refl, sym, _∙_, ap, subst}
-use mathlib.Core.List.{List, [], _∷_}
+use mathlib.Core.Path.{subst}
+use mathlib.Core.List.{List, [], _∷_, _++_}
 use mathlib.Core.Bool.{Bool, true, false}
-use lib.ListN.{length, getD, drop}
+use lib.ListN.{drop, take}
 use lib.Seq.{getD-drop}
 use Rattle.service.specs.declared.Service.{Service}
 use Rattle.segments.specs.declared.Class.{Class}
 use Rattle.segments.specs.declared.Class.the-variants.{Plain, Comp, Elem, Rel, Term}
 use Rattle.segments.specs.Classes.{classOf}
-use Rattle.parts.specs.Parts.{Tok, byte, comp, elem, lex, lexBy, valueOf, elements, valueAt}
+use Rattle.parts.specs.Parts.{Tok, byte, comp, elem, lex, lexBy, valueOf}
 use Rattle.parts.specs.Lex.{elemAt, compAt}
 use Rattle.parts.specs.ValueLaws.{value-at}
 use Rattle.values.specs.Numbers.{Bytes, valueFrom, valueIn}
@@ -65,7 +65,7 @@ comp-toks (suc c) t (with-byte b u h w) = comp-toks (suc c) u w
 comp-toks (suc c) t (with-comp u w) = comp-toks c u w
 comp-toks (suc c) t (with-elem u w) = none
 
-drop-bytes : (i : ℕ) (s : List ℕ) → Bytes s → Bytes (drop i s)
+pub drop-bytes : (i : ℕ) (s : List ℕ) → Bytes s → Bytes (drop i s)
 drop-bytes i s h k = rw (getD-drop i s k 0) (h (i + k))
 
 pub value-bytes : (v : Service) (i : ℕ) (s : List ℕ) → Bytes s → Bytes (valueFrom v i s)
@@ -75,3 +75,12 @@ pub component-bytes : (v : Service) (i : ℕ) (s : List ℕ) (e c : ℕ) → Byt
 component-bytes v i s e c h =
     subst Bytes (value-at (lex v false (drop i s)) e c)
     (value-toks _ (comp-toks c _ (elem-toks e _ (lex-bytes v false (drop i s) (drop-bytes i s h)))))
+
+pub take-bytes : (i : ℕ) (s : List ℕ) → Bytes s → Bytes (take i s)
+take-bytes zero s h = nil-bytes
+take-bytes (suc i) [] h = nil-bytes
+take-bytes (suc i) (b ∷ s) h = cons-bytes b (take i s) (h 0) (take-bytes i s (λ (k : ℕ). h (suc k)))
+
+pub append-bytes : (s t : List ℕ) → Bytes s → Bytes t → Bytes (s ++ t)
+append-bytes [] t h g = g
+append-bytes (b ∷ s) t h g = cons-bytes b (s ++ t) (h 0) (append-bytes s t (λ (k : ℕ). h (suc k)) g)
