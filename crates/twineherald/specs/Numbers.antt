@@ -3,6 +3,7 @@ use Prim.Native.Nat.{ℕ, _%_}
 use mathlib.Core.Path.{_≡_}
 use mathlib.Core.List.{List}
 use Rattle.interchange.specs.declared.Refusal.{Refusal}
+use Rattle.interchange.specs.declared.Closing.{Closing}
 use Rattle.report.specs.declared.Counts.{Counts}
 use Rattle.report.specs.declared.Report.{Report}
 use Rattle.report.specs.declared.Report.the-variants as report
@@ -15,6 +16,7 @@ use Rattle.rewrite.specs.declared.Rewriting.the-variants as rewrite
 use Rattle.rewrite.specs.Room as rewritten
 use Rattle.twineherald.specs.declared.ReportNumbers.{ReportNumbers}
 use Rattle.twineherald.specs.declared.StepNumbers.{StepNumbers}
+use Rattle.twineherald.specs.declared.ClosingNumbers.{ClosingNumbers}
 use Rattle.twineherald.specs.declared.RewritingNumbers.{RewritingNumbers}
 
 -- a refusal: its number, segment and offset, and no counts
@@ -51,6 +53,10 @@ stepOf (walk.Refused f) = stepWith 0 0 0 (refusedOf f)
 abbrev pub rewritingOf : Rewriting → RewritingNumbers
 rewritingOf (rewrite.Written n) = record { number = 0; length = n % 4294967296 }
 rewritingOf (rewrite.Refused f) = record { number = f .number; length = 0 }
+
+-- what closing found
+abbrev pub closingNumbers : Closing → ClosingNumbers
+closingNumbers c = record { number = c .number; messages = c .messages % 4294967296; strays = c .strays % 4294967296 }
 
 -- the numbers are those of an answer, and the lists are as that answer leaves them
 pub data Stepped : StepNumbers → List ℕ → List ℕ → List ℕ → List ℕ → List ℕ → List ℕ → Type 0 where

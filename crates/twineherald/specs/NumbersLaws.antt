@@ -3,6 +3,11 @@ use Prim.Native.Nat.{ℕ, _%_}
 use mathlib.Core.Path.{_≡_, refl, sym, _∙_, ap}
 use mathlib.Core.List.{List}
 use Rattle.interchange.specs.declared.Refusal.{Refusal}
+use Rattle.service.specs.declared.Service.{Service}
+use Rattle.interchange.specs.declared.Opening.{Opening}
+use Rattle.interchange.specs.declared.Opening.the-variants as opening
+use Rattle.interchange.specs.declared.Closing.{Closing}
+use Rattle.interchange.specs.Envelope.{openingNumber, openingOf, closingOf}
 use Rattle.report.specs.declared.Counts.{Counts}
 use Rattle.report.specs.declared.Report.{Report}
 use Rattle.report.specs.declared.Report.the-variants as report
@@ -16,7 +21,7 @@ use Rattle.rewrite.specs.Room as rewritten
 use Rattle.twineherald.specs.declared.ReportNumbers.{ReportNumbers}
 use Rattle.twineherald.specs.declared.StepNumbers.{StepNumbers}
 use Rattle.twineherald.specs.declared.RewritingNumbers.{RewritingNumbers}
-use Rattle.twineherald.specs.Numbers.{refusedOf, acceptedOf, nothingOf, reportOf, stepWith, stepOf, rewritingOf, Stepped, stepped, Reported, reported-as, Rewritten, rewritten-as}
+use Rattle.twineherald.specs.Numbers.{refusedOf, acceptedOf, nothingOf, reportOf, stepWith, stepOf, rewritingOf, closingNumbers, Stepped, stepped, Reported, reported-as, Rewritten, rewritten-as}
 
 pub accepted-by : (c : Counts) (a b d : ℕ) → a ≡ c .segments % 4294967296 → b ≡ c .orders % 4294967296 → d ≡ c .payments % 4294967296
     → record { number = 0; segment = 0; offset = 0; segments = a; orders = b; payments = d } ≡ acceptedOf c
@@ -25,6 +30,17 @@ accepted-by c a b d e f g = rw (e, f, g)
 pub step-by : (found start end a b : ℕ) (r : ReportNumbers) → a ≡ start % 4294967296 → b ≡ end % 4294967296
     → record { found = found; start = a; end = b; report = r } ≡ stepWith found start end r
 step-by found start end a b r e f = rw (e, f)
+
+-- opening and closing
+pub open-opens : (l : List ℕ) (o : Opening) → o ≡ openingOf l → (v : Service) (first : ℕ) → o ≡ opening.Opens v first → 0 ≡ openingNumber (openingOf l)
+open-opens l o e v first q = sym (ap openingNumber (sym e ∙ q))
+
+pub open-refused : (l : List ℕ) (o : Opening) → o ≡ openingOf l → (f : Refusal) → o ≡ opening.Refused f → f .number ≡ openingNumber (openingOf l)
+open-refused l o e f q = sym (ap openingNumber (sym e ∙ q))
+
+pub closing-by : (l : List ℕ) (c : Closing) → c ≡ closingOf l → (a b : ℕ) → a ≡ c .messages % 4294967296 → b ≡ c .strays % 4294967296
+    → record { number = c .number; messages = a; strays = b } ≡ closingNumbers (closingOf l)
+closing-by l c e a b p q = rw (p, q) (ap closingNumbers e)
 
 module _ (w : Report) (x : ReportNumbers) where
   pub report-accepted : (c : Counts) → w ≡ report.Accepted c → x ≡ acceptedOf c → x ≡ reportOf w

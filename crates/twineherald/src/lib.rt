@@ -1,7 +1,8 @@
 // The calls for C: open, walk, check, close and rewrite on byte slices and numbers. include/twineherald.h declares them.
 ghost use mathlib.Core.Path.{_≡_};
 ghost use Prim.Native.Nat.{_%_};
-ghost use Rattle.twineherald.specs.Numbers.{acceptedOf, refusedOf, reportOf, nothingOf, stepWith, stepOf, Stepped, Reported, Rewritten};
+ghost use Rattle.interchange.specs.Envelope.{openingNumber, openingOf, closingOf};
+ghost use Rattle.twineherald.specs.Numbers.{acceptedOf, refusedOf, reportOf, nothingOf, stepWith, stepOf, closingNumbers, Stepped, Reported, Rewritten};
 use interchange::Opening;
 use interchange::Refusal;
 use report::Counts;
@@ -107,7 +108,9 @@ fn step_numbers(found: u32, start: usize, end: usize, r: ReportNumbers) -> StepN
 }
 
 #[no_mangle]
-pub extern "C" fn twineherald_open(bytes: &[u8]) -> u32 {
+pub extern "C" fn twineherald_open(bytes: &[u8]) -> u32
+    ensures { λ x. ⌜ x ≡ openingNumber (openingOf (now (bytes .entry))) ⌝ }
+{
     let o = interchange::open(bytes);
     match o {
         Opening::Opens(_, _) => 0,
@@ -154,7 +157,9 @@ pub extern "C" fn twineherald_check(
 }
 
 #[no_mangle]
-pub extern "C" fn twineherald_close(bytes: &[u8]) -> ClosingNumbers {
+pub extern "C" fn twineherald_close(bytes: &[u8]) -> ClosingNumbers
+    ensures { λ x. ⌜ x ≡ closingNumbers (closingOf (now (bytes .entry))) ⌝ }
+{
     let c = interchange::close(bytes);
     ClosingNumbers {
         number: c.number,
