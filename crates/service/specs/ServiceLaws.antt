@@ -176,12 +176,16 @@ module _ (v : Service) (k : Bool) (p : k ≡ serves (v .component)) where
       pub each-third : l ≡ false → false ≡ (serves (v .component) && (serves (v .element) && (serves (v .terminator) && (not (v .releases) || serves (v .release)))))
       each-third e = simp (sym p ∙ y, sym q ∙ z, sym r ∙ e)
 
-      module _ (u : l ≡ true) where
-        pub each-none : v .releases ≡ false → true ≡ (serves (v .component) && (serves (v .element) && (serves (v .terminator) && (not (v .releases) || serves (v .release)))))
-        each-none e = simp (sym p ∙ y, sym q ∙ z, sym r ∙ u, e)
+      pub each-fits : l ≡ true → (m : Bool) → m ≡ (not (v .releases) || serves (v .release)) → m ≡ (serves (v .component) && (serves (v .element) && (serves (v .terminator) && (not (v .releases) || serves (v .release)))))
+      each-fits u m f = simp (sym p ∙ y, sym q ∙ z, sym r ∙ u) f
 
-        pub each-release : v .releases ≡ true → (m : Bool) → m ≡ serves (v .release) → m ≡ (serves (v .component) && (serves (v .element) && (serves (v .terminator) && (not (v .releases) || serves (v .release)))))
-        each-release e m f = simp (sym p ∙ y, sym q ∙ z, sym r ∙ u, e) f
+-- the release
+module _ (v : Service) where
+  pub release-none : v .releases ≡ false → true ≡ (not (v .releases) || serves (v .release))
+  release-none e = simp e
+
+  pub release-fits : v .releases ≡ true → (m : Bool) → m ≡ serves (v .release) → m ≡ (not (v .releases) || serves (v .release))
+  release-fits e m f = simp e f
 
 -- ---- the six bytes
 serves-no-space : (b : ℕ) → serves b ≡ true → eqb b 32 ≡ false

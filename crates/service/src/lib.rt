@@ -114,6 +114,16 @@ fn all_differ(a: u8, b: u8, c: u8, d: u8, e: u8) -> bool
     false
 }
 
+// Whether there is no release, or one that is fit.
+fn release_fits(v: Service) -> bool
+    ensures { λ r. ⌜ r ≡ (not (v .releases) || serves (v .release)) ⌝ }
+{
+    if v.releases {
+        return may_serve(v.release);
+    }
+    true
+}
+
 // Whether each of the characters is fit by itself.
 fn each_fits(v: Service) -> bool
     ensures { λ r. ⌜ r ≡ (serves (v .component) && (serves (v .element) && (serves (v .terminator) && (not (v .releases) || serves (v .release))))) ⌝ }
@@ -121,10 +131,7 @@ fn each_fits(v: Service) -> bool
     if may_serve(v.component) {
         if may_serve(v.element) {
             if may_serve(v.terminator) {
-                if v.releases {
-                    return may_serve(v.release);
-                }
-                return true;
+                return release_fits(v);
             }
         }
     }
@@ -142,12 +149,13 @@ fn named(s: [u8; 6]) -> Characters
         releases: s[3] != 32,
         terminator: s[5],
     };
-    if s[4] == 32 {
-        if is_mark(s[2]) {
-            if each_fits(v) {
-                if all_differ(s[0], s[1], s[2], s[3], s[5]) {
-                    return Characters::Fit(v, 9);
-                }
+    if s[4] != 32 {
+        return Characters::Unfit;
+    }
+    if is_mark(s[2]) {
+        if each_fits(v) {
+            if all_differ(s[0], s[1], s[2], s[3], s[5]) {
+                return Characters::Fit(v, 9);
             }
         }
     }

@@ -21,14 +21,17 @@ array-read-t12 c = search needs
 array-read-if1-2 : tie.Need-array-read-if1-2
 array-read-if1-2 c = search needs
 
-array-read-t19 : tie.Need-array-read-t19
-array-read-t19 c = search needs
+array-read-is-mark : tie.Need-array-read-is-mark
+array-read-is-mark c = search needs
 
 array-read-if1-3 : tie.Need-array-read-if1-3
 array-read-if1-3 c = search needs
 
-array-read-is-mark : tie.Need-array-read-is-mark
-array-read-is-mark c = search needs
+returns : tie.Need-returns
+returns c = search named-no-space
+
+array-read-is-mark-2 : tie.Need-array-read-is-mark-2
+array-read-is-mark-2 c = search needs
 
 is-mark-requires : tie.Need-is-mark-requires
 is-mark-requires c κs = search needs
@@ -54,20 +57,17 @@ array-read-all-differ-5 c = search needs
 all-differ-requires : tie.Need-all-differ-requires
 all-differ-requires c κs = search needs
 
-returns : tie.Need-returns
-returns c = named-fit _ _ _ _ _ _ (c .before .before .before .before .before .before .if1 .taken) _ (c .before .before .before .before .before .is-mark .ensures) (c .before .before .before .before .if2 .taken) _ (c .before .before .before .each-fits .ensures) (c .before .before .if3 .taken) _ (c .before .all-differ .ensures) (c .if4 .taken)
-
 returns-2 : tie.Need-returns-2
-returns-2 c = search named-same
+returns-2 c = named-fit _ _ _ _ _ _ (c .before .before .before .before .before .before .if1 .left) _ (c .before .before .before .before .before .is-mark .ensures) (c .before .before .before .before .if2 .taken) _ (c .before .before .before .each-fits .ensures) (c .before .before .if3 .taken) _ (c .before .all-differ .ensures) (c .if4 .taken)
 
 returns-3 : tie.Need-returns-3
-returns-3 c = search named-unfit
+returns-3 c = search named-same
 
 returns-4 : tie.Need-returns-4
-returns-4 c = search named-no-mark
+returns-4 c = search named-unfit
 
 returns-5 : tie.Need-returns-5
-returns-5 c = search named-no-space
+returns-5 c = search named-no-mark
 
 pub named-spec : {M : Type 1} → statement M
 named-spec =
@@ -77,9 +77,10 @@ named-spec =
     array-read-t9
     array-read-t12
     array-read-if1-2
-    array-read-t19
-    array-read-if1-3
     array-read-is-mark
+    array-read-if1-3
+    returns
+    array-read-is-mark-2
     is-mark-requires
     each-fits-requires
     array-read-all-differ
@@ -88,7 +89,6 @@ named-spec =
     array-read-all-differ-4
     array-read-all-differ-5
     all-differ-requires
-    returns
     returns-2
     returns-3
     returns-4
