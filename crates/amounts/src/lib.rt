@@ -182,16 +182,20 @@ fn bases_hold(a: u64, b: u64, rate: u64) -> bool {
     false
 }
 
+// Whether a code is that of three capitals other than the order's currency.
+fn is_other(code: u64, currency: u64) -> bool {
+    if code == currency {
+        return false;
+    }
+    values::is_capitals(code)
+}
+
 // Whether the CUX at `at` names the order's currency first, and then another.
 fn currencies_hold(m: &[u8], v: Service, at: usize, currency: u64) -> bool {
     if values::code_in(m, at, v, 1, 0) == 0x0132 {
         if values::code_in(m, at, v, 1, 1) == currency {
             if values::code_in(m, at, v, 2, 0) == 0x0133 {
-                let other = values::code_in(m, at, v, 2, 1);
-                if other == currency {
-                    return false;
-                }
-                return values::is_capitals(other);
+                return is_other(values::code_in(m, at, v, 2, 1), currency);
             }
         }
     }
