@@ -68,7 +68,7 @@ fn early_fault(m: &[u8], v: Service, t: Tally) -> Fault {
     if is_closed(m, v, unt) {
         if has_header(m, v) {
             if 9999 < t.segments {
-                return Fault::At(13, tally::segment_start(m, v, 10000));
+                return Fault::At(13, tally::segment_start(m, v, 9999));
             }
             return Fault::None;
         }

@@ -12,8 +12,5 @@ use Rattle.segments.specs.SegmentsLaws.{lies}
 use Rattle.tally.specs.declared.Tally.{Tally}
 use Rattle.tally.specs.Few.{Few}
 
-pub few-next : (v : Service) (s : List ℕ) (i : ℕ) (k : Segment) → k ≡ segmentAt v i s → (t n : ℕ) → k ≡ Finished t n → (a : Tally) → Few a (i + 1) → Few a n
-few-next v s i k c t n e a f = let w = lies v s i k c t n e in record { segments = omega (arith, f .segments); orders = omega (arith, f .orders); payments = omega (arith, f .payments) }
-
 pub few-here : (v : Service) (s : List ℕ) (i : ℕ) (k : Segment) → k ≡ segmentAt v i s → (t n : ℕ) → k ≡ Finished t n → i < length s
 few-here v s i k c t n e = let w = lies v s i k c t n e in omega arith

@@ -1,7 +1,11 @@
 // A message's bytes gone over once: the first byte that no value may have, its segments counted, its first UNT.
-ghost use Prim.Native.Nat.{ℕ, _+_, _≤_, _<_};
+ghost use Prim.Native.Nat.{ℕ, _+_, _<_};
+ghost use mathlib.Core.Path.{_≡_};
 ghost use lib.ListN.{length};
+ghost use Rattle.segments.specs.SegmentList.{segmentsFrom};
 ghost use Rattle.tally.specs.Few.{Few};
+ghost use Rattle.tally.specs.Places.{passed, startAfter};
+ghost use Rattle.tally.specs.Tallied.{isValueByte, badBetween, oneIf, finishedOne, unfinishedOne, together, tallyOf};
 use faults::First;
 use segments::Segment;
 use service::Service;
@@ -21,7 +25,9 @@ pub struct Tally {
 }
 
 // Whether a value may have the byte: 0x20 to 0x7E or 0xA0 to 0xFF.
-pub fn is_value_byte(b: u8) -> bool {
+pub fn is_value_byte(b: u8) -> bool
+    ensures { λ r. ⌜ r ≡ isValueByte b ⌝ }
+{
     if b < 0x20 {
         return false;
     }
@@ -32,7 +38,9 @@ pub fn is_value_byte(b: u8) -> bool {
 }
 
 // The first byte from `from` on that no value may have, before `to`.
-fn bad_byte(m: &[u8], from: usize, to: usize) -> First {
+fn bad_byte(m: &[u8], from: usize, to: usize) -> First
+    ensures { λ r. ⌜ r ≡ badBetween (now (m .entry)) from to ⌝ }
+{
     let mut i = from;
     while i < to {
         if m.len() <= i {
@@ -49,7 +57,7 @@ fn bad_byte(m: &[u8], from: usize, to: usize) -> First {
 
 fn count_if(holds: bool, n: usize) -> usize
     requires { ⌜ n < 18446744073709551615 ⌝ }
-    ensures { λ r. ⌜ r ≤ n + 1 ⌝ }
+    ensures { λ r. ⌜ r ≡ n + oneIf holds ⌝ }
 {
     if holds { n + 1 } else { n }
 }
@@ -57,7 +65,7 @@ fn count_if(holds: bool, n: usize) -> usize
 // One finished segment more: it begins at `at`, and its terminator stands at `end`.
 fn count(t: Tally, m: &[u8], at: usize, end: usize, tag: u64) -> Tally
     requires { ⌜ Few t at × (at < length (now m)) ⌝ }
-    ensures { λ r. ⌜ Few r (at + 1) ⌝ }
+    ensures { λ r. ⌜ r ≡ together t (finishedOne (now (m .entry)) at end tag) ⌝ }
 {
     let bad = t.bad;
     let unt = t.unt;
@@ -74,7 +82,9 @@ fn count(t: Tally, m: &[u8], at: usize, end: usize, tag: u64) -> Tally
 }
 
 // The tally with the bytes from `at` on, which are no finished segment.
-fn finish(t: Tally, m: &[u8], at: usize) -> Tally {
+fn finish(t: Tally, m: &[u8], at: usize) -> Tally
+    ensures { λ r. ⌜ r ≡ together t (unfinishedOne (now (m .entry)) at (length (now (m .entry)))) ⌝ }
+{
     let bad = t.bad;
     let unt = t.unt;
     let now = bad_byte(m, at, m.len());
@@ -88,7 +98,9 @@ fn finish(t: Tally, m: &[u8], at: usize) -> Tally {
     }
 }
 
-pub fn tally_of(m: &[u8], v: Service) -> Tally {
+pub fn tally_of(m: &[u8], v: Service) -> Tally
+    ensures { λ r. ⌜ r ≡ tallyOf v (now (m .entry)) (segmentsFrom v (now (m .entry)) 0) ⌝ }
+{
     let mut t = Tally {
         bad: First::None,
         segments: 0,
@@ -115,34 +127,52 @@ pub fn tally_of(m: &[u8], v: Service) -> Tally {
     }
 }
 
-// How many segments end before the one that holds the byte at `at`.
-pub fn segments_before(m: &[u8], v: Service, at: usize) -> usize {
+// How many segments stand before the one that holds the byte at `at`.
+pub fn segments_before(m: &[u8], v: Service, at: usize) -> usize
+    ensures { λ r. ⌜ r ≡ passed (length (now (m .entry))) at (segmentsFrom v (now (m .entry)) 0) ⌝ }
+{
     let mut n: usize = 0;
     let mut i: usize = 0;
     loop {
         let g = segments::segment_at(m, i, v);
-        let Segment::Finished(_, next) = g else {
-            return n;
-        };
-        if at < next {
-            return n;
+        match g {
+            Segment::Finished(_, next) => {
+                if at < next {
+                    return n;
+                }
+                n += 1;
+                i = next;
+            }
+            Segment::Unfinished => {
+                return n;
+            }
+            Segment::Nothing => {
+                return n;
+            }
         }
-        n += 1;
-        i = next;
     }
 }
 
-// Where segment `k` begins, counted from 1; the end of the bytes where there are fewer.
-pub fn segment_start(m: &[u8], v: Service, k: usize) -> usize {
-    let mut n: usize = 1;
+// Where the segment with `before` segments before it begins; the end of the bytes where there are fewer.
+pub fn segment_start(m: &[u8], v: Service, before: usize) -> usize
+    ensures { λ r. ⌜ r ≡ startAfter (length (now (m .entry))) before (segmentsFrom v (now (m .entry)) 0) ⌝ }
+{
+    let mut n: usize = 0;
     let mut i: usize = 0;
-    while n < k {
+    while n < before {
         let g = segments::segment_at(m, i, v);
-        let Segment::Finished(_, next) = g else {
-            return m.len();
-        };
-        n += 1;
-        i = next;
+        match g {
+            Segment::Finished(_, next) => {
+                n += 1;
+                i = next;
+            }
+            Segment::Unfinished => {
+                return m.len();
+            }
+            Segment::Nothing => {
+                return m.len();
+            }
+        }
     }
     i
 }

@@ -1,8 +1,12 @@
--- `tally::segment_start` meets its contract: it ends. Assumes nothing.
-use borrow.Author.Needs.{needs}
-use Prim.Native.Nat.{_-_}
+-- `tally::segment_start` meets its contract. The invariant: what is still to pass. Assumes nothing.
+use Prim.Native.Nat.{_-_, _≤_}
+use mathlib.Core.Path.{_≡_}
 use lib.ListN.{length}
 use Rattle.segments.specs.SegmentsLaws.{less-segment}
+use Rattle.segments.specs.SegmentList.{segmentsFrom}
+use Rattle.tally.specs.Places.{startAfter}
+use Rattle.tally.specs.PlacesLaws.{after-here, after-nothing, after-unfinished, after-on, after-within, after-start}
+use borrow.Author.Needs.{needs}
 use Rattle.tally.proofs.segment_start.Statement.{statement}
 use Rattle.tally.proofs.segment_start.Tie as tie
 use Rattle.tally.proofs.segment_start.Reads as reads
@@ -10,34 +14,43 @@ use Rattle.tally.proofs.segment_start.Lts as lts
 use Rattle.segments.proofs.segment_at.Reads as segment-at-reads
 
 abbrev Inv-loop : tie.InvT-loop
-Inv-loop m v k n₀ i₀ n i = Unit {0}
+Inv-loop m v before n₀ i₀ n i = (startAfter (length m) before (segmentsFrom v m 0) ≡ startAfter (length m) (before - n) (segmentsFrom v m i)) × (i ≤ length m)
 
 abbrev μ-loop : tie.MeasureT-loop
-μ-loop m v k n₀ i₀ n i = length m - i
+μ-loop m v before n₀ i₀ n i = length m - i
 
 loop-holds : tie.Need-loop-holds Inv-loop μ-loop
-loop-holds c = search (less-segment, needs)
+loop-holds c = search (less-segment, after-here, after-nothing, after-unfinished, after-on, after-within, after-start, needs)
 
 segment-at-requires : tie.Need-segment-at-requires Inv-loop μ-loop
-segment-at-requires c κs = search (less-segment, needs)
+segment-at-requires c κs = search (less-segment, after-here, after-nothing, after-unfinished, after-on, after-within, after-start, needs)
 
 enum-known-g : tie.Need-enum-known-g Inv-loop μ-loop
-enum-known-g c = search (less-segment, needs)
-
-returns : tie.Need-returns Inv-loop μ-loop
-returns c = search (less-segment, needs)
+enum-known-g c = search (less-segment, after-here, after-nothing, after-unfinished, after-on, after-within, after-start, needs)
 
 add-n : tie.Need-add-n Inv-loop μ-loop
-add-n c = search (less-segment, needs)
+add-n c = search (less-segment, after-here, after-nothing, after-unfinished, after-on, after-within, after-start, needs)
 
 loop-less : tie.Need-loop-less Inv-loop μ-loop
-loop-less c = search (less-segment, needs)
+loop-less c = search (less-segment, after-here, after-nothing, after-unfinished, after-on, after-within, after-start, needs)
 
 loop-again : tie.Need-loop-again Inv-loop μ-loop
-loop-again c = search (less-segment, needs)
+loop-again c = search (less-segment, after-here, after-nothing, after-unfinished, after-on, after-within, after-start, needs)
+
+enum-told : tie.Need-enum-told Inv-loop μ-loop
+enum-told c = search (less-segment, after-here, after-nothing, after-unfinished, after-on, after-within, after-start, needs)
+
+returns : tie.Need-returns Inv-loop μ-loop
+returns c = search (less-segment, after-here, after-nothing, after-unfinished, after-on, after-within, after-start, needs)
+
+enum-told-2 : tie.Need-enum-told-2 Inv-loop μ-loop
+enum-told-2 c = search (less-segment, after-here, after-nothing, after-unfinished, after-on, after-within, after-start, needs)
 
 returns-2 : tie.Need-returns-2 Inv-loop μ-loop
-returns-2 c = search (less-segment, needs)
+returns-2 c = search (less-segment, after-here, after-nothing, after-unfinished, after-on, after-within, after-start, needs)
+
+returns-3 : tie.Need-returns-3 Inv-loop μ-loop
+returns-3 c = search (less-segment, after-here, after-nothing, after-unfinished, after-on, after-within, after-start, needs)
 
 pub segment-start-spec : {M : Type 1} → statement M
 segment-start-spec =
@@ -48,8 +61,11 @@ segment-start-spec =
     loop-holds
     segment-at-requires
     enum-known-g
-    returns
     add-n
     loop-less
     loop-again
-    returns-2)
+    enum-told
+    returns
+    enum-told-2
+    returns-2
+    returns-3)

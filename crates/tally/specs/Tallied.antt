@@ -1,0 +1,71 @@
+-- What one reading of a message's bytes finds: the first byte that no value may have, and the segments, LIN, SEQ and UNT counted and found.
+use Prim.Native.Nat.{ℕ, suc, _+_, _-_}
+use mathlib.Core.List.{List, [], _∷_}
+use mathlib.Core.Bool.{Bool, true, false, not, _||_}
+use lib.ListN.{take, drop}
+use lib.Dec.{eqb, leb}
+use Rattle.service.specs.declared.Service.{Service}
+use Rattle.service.specs.Service.{within}
+use Rattle.segments.specs.SegmentList.{Piece, finished, unfinished}
+use Rattle.values.specs.Values.{valueFrom, codeOf}
+use Rattle.faults.specs.declared.First.{First}
+use Rattle.faults.specs.declared.First.the-variants as first
+use Rattle.faults.specs.Firsts.{lesser, placeUnless}
+use Rattle.tally.specs.declared.Tally.{Tally}
+
+-- "0x20..0x7E and 0xA0..0xFF"
+unfoldable pub isValueByte : ℕ → Bool
+isValueByte b = within 32 126 b || leb 160 b
+
+abbrev pub badBy : Bool → ℕ → First → First
+badBy true i on = on
+badBy false i on = first.At i
+
+-- 10: "under 10 the first such byte": of these bytes, which begin at i, the first outside
+unfoldable pub firstBad : ℕ → List ℕ → First
+firstBad i [] = first.None
+firstBad i (b ∷ l) = badBy (isValueByte b) i (firstBad (suc i) l)
+
+-- the same of the bytes of a text from a up to but excluding e
+abbrev pub badBetween : List ℕ → ℕ → ℕ → First
+badBetween m a e = firstBad a (take (e - a) (drop a m))
+
+-- the codes of the tags LIN, SEQ and UNT
+abbrev pub LIN : ℕ
+LIN = 0x1_4c_49_4e
+
+abbrev pub SEQ : ℕ
+SEQ = 0x1_53_45_51
+
+abbrev pub UNT : ℕ
+UNT = 0x1_55_4e_54
+
+abbrev pub oneIf : Bool → ℕ
+oneIf true = 1
+oneIf false = 0
+
+-- what one segment adds, by its tag; an unfinished one is no segment yet, but its bytes count under 10
+abbrev pub finishedOne : List ℕ → ℕ → ℕ → ℕ → Tally
+finishedOne m a e g = record { bad = badBetween m a e; segments = 1; orders = oneIf (eqb g LIN); payments = oneIf (eqb g SEQ); unt = placeUnless (not (eqb g UNT)) a }
+
+abbrev pub unfinishedOne : List ℕ → ℕ → ℕ → Tally
+unfinishedOne m a e = record { bad = badBetween m a e; segments = 0; orders = 0; payments = 0; unt = first.None }
+
+abbrev pub nothing : Tally
+nothing = record { bad = first.None; segments = 0; orders = 0; payments = 0; unt = first.None }
+
+-- two tallies together: counts added, the first of the places
+abbrev pub together : Tally → Tally → Tally
+together t u = record {
+  bad = lesser (t .bad) (u .bad);
+  segments = t .segments + u .segments;
+  orders = t .orders + u .orders;
+  payments = t .payments + u .payments;
+  unt = lesser (t .unt) (u .unt);
+}
+
+-- the tally of segments
+unfoldable pub tallyOf : Service → List ℕ → List Piece → Tally
+tallyOf v m [] = nothing
+tallyOf v m (finished a e ∷ l) = together (finishedOne m a e (codeOf (valueFrom v a m))) (tallyOf v m l)
+tallyOf v m (unfinished a e ∷ l) = together (unfinishedOne m a e) (tallyOf v m l)
