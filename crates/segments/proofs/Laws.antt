@@ -1,7 +1,5 @@
--- What the arms of a `match` on a `Class` are told. Assumes nothing.
-use Prim.Native.Nat.{ℕ, _+_, _<_}
-use mathlib.Core.Bool.{Bool, true, false}
-use lib.ListN.{length, drop, getD}
+-- What the last arm of the `match` in `segments::release_of` is told. Assumes nothing.
+use Prim.Native.Nat.{ℕ}
 use mathlib.Core.Path.{_≡_, refl, sym, _∙_}
 use mathlib.Core.List.{List, [], _∷_}
 use mathlib.Core.Logic.{⊎-elim}
@@ -10,21 +8,20 @@ use types.Run.{OneOf}
 use denote.Enum.Declared.{tagOf}
 use Rattle.segments.specs.declared.Class.{Class}
 use Rattle.segments.specs.declared.Class.the-variants.{Plain, Comp, Elem, Rel, Term}
-use Rattle.segments.specs.declared.End.{End}
 use Rattle.service.specs.declared.Service.{Service}
-use Rattle.segments.specs.Bytes.{classOf, endFrom, endBy}
-use Rattle.segments.specs.BytesLaws.{end-by}
+use Rattle.segments.specs.Bytes.{classOf, releaseBy, releaseOf}
+use Rattle.segments.specs.BytesLaws.{release-by}
 use Rattle.segments.proofs.Class.{the-type}
 
--- a byte that ends nothing and releases nothing
-pub end-other : (k : Class) → OneOf (0 ∷ 1 ∷ 2 ∷ []) (tagOf the-type k) → (i : ℕ) (a b : End) → endBy k i a b ≡ b
-end-other Plain h i a b = refl
-end-other Comp h i a b = refl
-end-other Elem h i a b = refl
-end-other Rel h i a b = absurd (⊎-elim (λ (e : 3 ≡ 0). omega arith) (λ w. ⊎-elim (λ (e : 3 ≡ 1). omega arith) (λ (e : 3 ≡ 2). omega arith) w) h)
-end-other Term h i a b = absurd (⊎-elim (λ (e : 4 ≡ 0). omega arith) (λ w. ⊎-elim (λ (e : 4 ≡ 1). omega arith) (λ (e : 4 ≡ 2). omega arith) w) h)
+other-by : (v : Service) (k : Class) → OneOf (0 ∷ 1 ∷ 2 ∷ 4 ∷ []) (tagOf the-type k) → v .terminator ≡ releaseBy k v
+other-by v Plain h = refl
+other-by v Comp h = refl
+other-by v Elem h = refl
+other-by v Rel h =
+    absurd
+    (⊎-elim (λ (e : 3 ≡ 0). omega arith)
+    (λ w. ⊎-elim (λ (e : 3 ≡ 1). omega arith) (λ u. ⊎-elim (λ (e : 3 ≡ 2). omega arith) (λ (e : 3 ≡ 4). omega arith) u) w) h)
+other-by v Term h = refl
 
-pub end-on :
-    (x : End) (v : Service) (r : Bool) (s : List ℕ) (i : ℕ) → x ≡ endFrom v r i (drop i s) → i < length s → r ≡ false → (k : Class) → k ≡ classOf v (getD s i 0)
-    → OneOf (0 ∷ 1 ∷ 2 ∷ []) (tagOf the-type k) → x ≡ endFrom v r (i + 1) (drop (i + 1) s)
-end-on x v r s i inv h e k c o = rw e (end-by x v r s i inv h e k c ∙ end-other k o _ _ _)
+pub release-other : (v : Service) (k : Class) → k ≡ classOf v (v .release) → OneOf (0 ∷ 1 ∷ 2 ∷ 4 ∷ []) (tagOf the-type k) → v .terminator ≡ releaseOf v
+release-other v k c h = other-by v k h ∙ release-by v k c

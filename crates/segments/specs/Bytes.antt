@@ -18,6 +18,18 @@ endBy Elem i rel on = on
 endBy Rel i rel on = rel
 endBy Term i rel on = At i
 
+-- the release, or the terminator where the byte named as the release is none, by what that byte is
+abbrev pub releaseBy : Class → Service → ℕ
+releaseBy Plain v = v .terminator
+releaseBy Comp v = v .terminator
+releaseBy Elem v = v .terminator
+releaseBy Rel v = v .release
+releaseBy Term v = v .terminator
+
+-- what an unreleased byte, if it is no terminator, equals exactly if it is a release
+unfoldable pub releaseOf : Service → ℕ
+releaseOf v = releaseBy (classOf v (v .release)) v
+
 -- the index of the first unreleased terminator of the bytes, the first of which stands at i and is released or not
 unfoldable pub endFrom : Service → Bool → ℕ → List ℕ → End
 endFrom v r i [] = None

@@ -1,8 +1,9 @@
 // Bytes to segments: what a byte is, where a segment ends, and where the next one begins.
 ghost use mathlib.Core.Path.{_≡_};
-ghost use mathlib.Core.Bool.{Bool, true, false};
+ghost use mathlib.Core.Bool.{Bool, true, false, _||_};
+ghost use lib.Dec.{eqb};
 ghost use lib.ListN.{length, take, drop};
-ghost use Rattle.segments.specs.Bytes.{classOf, endFrom, pastBreaks};
+ghost use Rattle.segments.specs.Bytes.{classOf, releaseOf, endFrom, pastBreaks};
 ghost use Rattle.segments.specs.Segments.{segmentAt};
 use service::Service;
 
@@ -49,31 +50,64 @@ pub fn classify(v: Service, b: u8) -> Class
     Class::Plain
 }
 
+// What an unreleased byte that is no terminator equals exactly if it is a release: the terminator itself, where there is none.
+fn release_of(v: Service) -> u8
+    ensures { λ r. ⌜ r ≡ releaseOf v ⌝ }
+{
+    let k = classify(v, v.release);
+    match k {
+        Class::Rel => v.release,
+        _ => v.terminator,
+    }
+}
+
+// Whether a byte is one of two.
+fn either(b: u8, x: u8, y: u8) -> bool
+    ensures { λ r. ⌜ r ≡ (eqb b x || eqb b y) ⌝ }
+{
+    (b == x) | (b == y)
+}
+
+// Past bytes that are no terminator and no release, four at a time: the end found from there is the end found from `at`.
+fn pass_fours(s: &[u8], at: usize, v: Service) -> usize
+    ensures { λ r. ⌜ endFrom v false at (drop at (now (s .entry))) ≡ endFrom v false r (drop r (now (s .entry))) ⌝ }
+{
+    if s.len() < 4 {
+        return at;
+    }
+    let last = s.len() - 4;
+    let release = release_of(v);
+    let mut i = at;
+    while i <= last {
+        let terminator = v.terminator;
+        let met = either(s[i], terminator, release)
+            | either(s[i + 1], terminator, release)
+            | either(s[i + 2], terminator, release)
+            | either(s[i + 3], terminator, release);
+        if met {
+            return i;
+        }
+        i += 4;
+    }
+    i
+}
+
 // The first unreleased terminator at or after `at`.
 pub fn segment_end(s: &[u8], at: usize, v: Service) -> End
     ensures { λ r. ⌜ r ≡ endFrom v false at (drop at (now (s .entry))) ⌝ }
 {
-    let mut i = at;
-    let mut released = false;
+    let release = release_of(v);
+    let mut i = pass_fours(s, at, v);
     while i < s.len() {
-        let next = i + 1;
-        if released {
-            released = false;
-            i = next;
+        let b = s[i];
+        let terminator = v.terminator;
+        if b == terminator {
+            return End::At(i);
+        }
+        if b == release {
+            i += 2;
         } else {
-            let k = classify(v, s[i]);
-            match k {
-                Class::Term => {
-                    return End::At(i);
-                }
-                Class::Rel => {
-                    released = true;
-                    i = next;
-                }
-                _ => {
-                    i = next;
-                }
-            }
+            i += 1;
         }
     }
     End::None
