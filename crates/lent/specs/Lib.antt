@@ -1,2 +1,4 @@
 pub mod Kept
 pub mod KeptLaws
+pub mod Over
+pub mod OverLaws

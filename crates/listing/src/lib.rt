@@ -1,12 +1,14 @@
 // The rows, the starts and the totals of an accepted message, written over the front of lent lists.
-ghost use Prim.Native.Nat.{ℕ, _≤_};
-ghost use lib.ListN.{length};
+ghost use mathlib.Core.Path.{_≡_};
 ghost use Rattle.lent.specs.Kept.{Kept};
+ghost use Rattle.listing.specs.Listing.{Listed, Totalled, TotalPut, totalAt};
 use service::Service;
 use values::Amount;
 
 // The amount of the MOA at `at`; an amount without the form counts 0.
-fn total_at(m: &[u8], v: Service, at: usize) -> u64 {
+fn total_at(m: &[u8], v: Service, at: usize) -> u64
+    ensures { λ r. ⌜ r ≡ totalAt v (now (m .entry)) at ⌝ }
+{
     let p = parts::component(m, at, v, 1, 1);
     let a = values::amount_at(m, p, v);
     match a {
@@ -18,6 +20,7 @@ fn total_at(m: &[u8], v: Service, at: usize) -> u64 {
 // The row and the start of each of the first `count` segments; nothing where a list is too short for them.
 pub fn put_segments(m: &[u8], v: Service, count: usize, rows: &mut [u16], starts: &mut [u32])
     ensures { λ _. ⌜ Kept count (now (rows .entry)) (now (rows .exit)) × Kept count (now (starts .entry)) (now (starts .exit)) ⌝ }
+    ensures { λ _. ⌜ Listed v (now (m .entry)) count (now (rows .entry)) (now (rows .exit)) (now (starts .entry)) (now (starts .exit)) ⌝ }
 {
     if rows.len() < count {
         return;
@@ -29,31 +32,26 @@ pub fn put_segments(m: &[u8], v: Service, count: usize, rows: &mut [u16], starts
     let mut row: usize = 0;
     let mut k: usize = 0;
     while k < count {
+        let at = c.at;
+        if m.len() <= at {
+            return;
+        }
         row = chart::next_row(row, c.tag);
+        c = chart::step(m, v, c);
         let x = lent::low16(row);
-        let y = lent::low32(c.at);
+        let y = lent::low32(at);
         rows[k] = x;
         starts[k] = y;
-        c = chart::step(m, v, c);
         k += 1;
     }
 }
 
-// The total of an order, if the segment at `at` is its MOA and `k` orders before it are written; gives how many are written then.
-fn put_total(
-    m: &[u8],
-    v: Service,
-    at: usize,
-    row: usize,
-    count: usize,
-    k: usize,
-    totals: &mut [u64],
-) -> usize
-    requires { ⌜ count ≤ length (now totals) ⌝ }
-    ensures { λ _. ⌜ Kept count (now (totals .entry)) (now (totals .exit)) ⌝ }
+// The total of an order, if the segment at `at` is its MOA and the list has room after `k` totals; gives how many are written then.
+fn put_total(m: &[u8], v: Service, at: usize, row: usize, k: usize, totals: &mut [u64]) -> usize
+    ensures { λ r. ⌜ TotalPut v (now (m .entry)) at row k (now (totals .entry)) (now (totals .exit)) r ⌝ }
 {
     if row == chart::ORDER_MOA {
-        if k < count {
+        if k < totals.len() {
             let x = total_at(m, v, at);
             totals[k] = x;
             return k + 1;
@@ -65,6 +63,7 @@ fn put_total(
 // The totals of the first `count` orders; nothing where the list is too short for them.
 pub fn put_totals(m: &[u8], v: Service, count: usize, totals: &mut [u64])
     ensures { λ _. ⌜ Kept count (now (totals .entry)) (now (totals .exit)) ⌝ }
+    ensures { λ _. ⌜ Totalled v (now (m .entry)) count (now (totals .entry)) (now (totals .exit)) ⌝ }
 {
     if totals.len() < count {
         return;
@@ -72,11 +71,13 @@ pub fn put_totals(m: &[u8], v: Service, count: usize, totals: &mut [u64])
     let mut c = chart::cursor_at(m, 0, v);
     let mut row: usize = 0;
     let mut k: usize = 0;
-    let mut at = c.at;
-    while at < m.len() {
+    while k < count {
+        let at = c.at;
+        if m.len() <= at {
+            return;
+        }
         row = chart::next_row(row, c.tag);
-        k = put_total(m, v, at, row, count, k, totals);
         c = chart::step(m, v, c);
-        at = c.at;
+        k = put_total(m, v, at, row, k, totals);
     }
 }

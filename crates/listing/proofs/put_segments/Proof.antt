@@ -1,9 +1,8 @@
--- `listing::put_segments` meets its contract. The invariant: entries from the count on are as before. Assumes nothing.
+-- `listing::put_segments` meets its contract. The invariant: k segments are listed and the cursor stands at the next. Assumes nothing.
 use borrow.Author.Needs.{needs}
-use Prim.Native.Nat.{_-_, _≤_}
-use lib.ListN.{length}
-use Rattle.lent.specs.Kept.{Kept}
-use Rattle.lent.specs.KeptLaws.{kept-start, kept-set, kept-room}
+use Prim.Native.Nat.{_-_}
+use Rattle.lent.specs.KeptLaws.{kept-start}
+use Rattle.listing.proofs.Segments.{Lists, lists-first, listed-short-rows, listed-short-starts, lists-room-rows, lists-room-starts, lists-next, lists-last, lists-end}
 use Rattle.listing.proofs.put_segments.Statement.{statement}
 use Rattle.listing.proofs.put_segments.Tie as tie
 use Rattle.listing.proofs.put_segments.Reads as reads
@@ -15,64 +14,73 @@ use Rattle.lent.proofs.low16.Reads as low16-reads
 use Rattle.lent.proofs.low32.Reads as low32-reads
 
 abbrev Inv-loop : tie.InvT-loop
-Inv-loop m v count rows₀ starts₀ c₀ row₀ k₀ rows starts c row k = Kept count rows₀ rows × Kept count starts₀ starts
+Inv-loop m v count rows₀ starts₀ c₀ row₀ k₀ rows starts c row k = Lists v m count k row c rows₀ rows starts₀ starts
 
 abbrev μ-loop : tie.MeasureT-loop
 μ-loop m v count rows₀ starts₀ c₀ row₀ k₀ rows starts c row k = count - k
 
 returns : tie.Need-returns Inv-loop μ-loop
-returns c = search (kept-start, kept-set, kept-room, needs)
+returns c = search (kept-start, lists-first, listed-short-rows, listed-short-starts, lists-room-rows, lists-room-starts, lists-next, lists-last, lists-end, needs)
 
 returns-2 : tie.Need-returns-2 Inv-loop μ-loop
-returns-2 c = search (kept-start, kept-set, kept-room, needs)
+returns-2 c = search (kept-start, lists-first, listed-short-rows, listed-short-starts, lists-room-rows, lists-room-starts, lists-next, lists-last, lists-end, needs)
 
 cursor-at-requires : tie.Need-cursor-at-requires Inv-loop μ-loop
-cursor-at-requires c κs = search (kept-start, kept-set, kept-room, needs)
+cursor-at-requires c κs = search (kept-start, lists-first, listed-short-rows, listed-short-starts, lists-room-rows, lists-room-starts, lists-next, lists-last, lists-end, needs)
 
 loop-holds : tie.Need-loop-holds Inv-loop μ-loop
-loop-holds c = search (kept-start, kept-set, kept-room, needs)
-
-next-row-requires : tie.Need-next-row-requires Inv-loop μ-loop
-next-row-requires c κs = search (kept-start, kept-set, kept-room, needs)
-
-low16-requires : tie.Need-low16-requires Inv-loop μ-loop
-low16-requires c κs = search (kept-start, kept-set, kept-room, needs)
-
-low32-requires : tie.Need-low32-requires Inv-loop μ-loop
-low32-requires c κs = search (kept-start, kept-set, kept-room, needs)
-
-mul-rows : tie.Need-mul-rows Inv-loop μ-loop
-mul-rows c = search (kept-start, kept-set, kept-room, needs)
-
-slice-write-rows : tie.Need-slice-write-rows Inv-loop μ-loop
-slice-write-rows c = search (kept-start, kept-set, kept-room, needs)
-
-mul-starts : tie.Need-mul-starts Inv-loop μ-loop
-mul-starts c = search (kept-start, kept-set, kept-room, needs)
-
-slice-write-starts : tie.Need-slice-write-starts Inv-loop μ-loop
-slice-write-starts c = search (kept-start, kept-set, kept-room, needs)
-
-step-requires : tie.Need-step-requires Inv-loop μ-loop
-step-requires c κs = search (kept-start, kept-set, kept-room, needs)
-
-add-k : tie.Need-add-k Inv-loop μ-loop
-add-k c = search (kept-start, kept-set, kept-room, needs)
-
-loop-less : tie.Need-loop-less Inv-loop μ-loop
-loop-less c = search (kept-start, kept-set, kept-room, needs)
-
-loop-again : tie.Need-loop-again Inv-loop μ-loop
-loop-again c = search (kept-start, kept-set, kept-room, needs)
+loop-holds c = search (kept-start, lists-first, listed-short-rows, listed-short-starts, lists-room-rows, lists-room-starts, lists-next, lists-last, lists-end, needs)
 
 same-length : tie.Need-same-length Inv-loop μ-loop
-same-length c = search (kept-start, kept-set, kept-room, needs)
+same-length c = search (kept-start, lists-first, listed-short-rows, listed-short-starts, lists-room-rows, lists-room-starts, lists-next, lists-last, lists-end, needs)
 
 same-length-2 : tie.Need-same-length-2 Inv-loop μ-loop
-same-length-2 c = search (kept-start, kept-set, kept-room, needs)
+same-length-2 c = search (kept-start, lists-first, listed-short-rows, listed-short-starts, lists-room-rows, lists-room-starts, lists-next, lists-last, lists-end, needs)
 
 returns-3 : tie.Need-returns-3 Inv-loop μ-loop
-returns-3 c = search (kept-start, kept-set, kept-room, needs)
+returns-3 c = search (kept-start, lists-first, listed-short-rows, listed-short-starts, lists-room-rows, lists-room-starts, lists-next, lists-last, lists-end, needs)
+
+next-row-requires : tie.Need-next-row-requires Inv-loop μ-loop
+next-row-requires c κs = search (kept-start, lists-first, listed-short-rows, listed-short-starts, lists-room-rows, lists-room-starts, lists-next, lists-last, lists-end, needs)
+
+step-requires : tie.Need-step-requires Inv-loop μ-loop
+step-requires c κs = search (kept-start, lists-first, listed-short-rows, listed-short-starts, lists-room-rows, lists-room-starts, lists-next, lists-last, lists-end, needs)
+
+low16-requires : tie.Need-low16-requires Inv-loop μ-loop
+low16-requires c κs = search (kept-start, lists-first, listed-short-rows, listed-short-starts, lists-room-rows, lists-room-starts, lists-next, lists-last, lists-end, needs)
+
+low32-requires : tie.Need-low32-requires Inv-loop μ-loop
+low32-requires c κs = search (kept-start, lists-first, listed-short-rows, listed-short-starts, lists-room-rows, lists-room-starts, lists-next, lists-last, lists-end, needs)
+
+mul-rows : tie.Need-mul-rows Inv-loop μ-loop
+mul-rows c = search (kept-start, lists-first, listed-short-rows, listed-short-starts, lists-room-rows, lists-room-starts, lists-next, lists-last, lists-end, needs)
+
+slice-write-rows : tie.Need-slice-write-rows Inv-loop μ-loop
+slice-write-rows c = search (kept-start, lists-first, listed-short-rows, listed-short-starts, lists-room-rows, lists-room-starts, lists-next, lists-last, lists-end, needs)
+
+mul-starts : tie.Need-mul-starts Inv-loop μ-loop
+mul-starts c = search (kept-start, lists-first, listed-short-rows, listed-short-starts, lists-room-rows, lists-room-starts, lists-next, lists-last, lists-end, needs)
+
+slice-write-starts : tie.Need-slice-write-starts Inv-loop μ-loop
+slice-write-starts c = search (kept-start, lists-first, listed-short-rows, listed-short-starts, lists-room-rows, lists-room-starts, lists-next, lists-last, lists-end, needs)
+
+add-k : tie.Need-add-k Inv-loop μ-loop
+add-k c = search (kept-start, lists-first, listed-short-rows, listed-short-starts, lists-room-rows, lists-room-starts, lists-next, lists-last, lists-end, needs)
+
+loop-less : tie.Need-loop-less Inv-loop μ-loop
+loop-less c = search (kept-start, lists-first, listed-short-rows, listed-short-starts, lists-room-rows, lists-room-starts, lists-next, lists-last, lists-end, needs)
+
+loop-again : tie.Need-loop-again Inv-loop μ-loop
+loop-again c = search (kept-start, lists-first, listed-short-rows, listed-short-starts, lists-room-rows, lists-room-starts, lists-next, lists-last, lists-end, needs)
+
+same-length-3 : tie.Need-same-length-3 Inv-loop μ-loop
+same-length-3 c = search (kept-start, lists-first, listed-short-rows, listed-short-starts, lists-room-rows, lists-room-starts, lists-next, lists-last, lists-end, needs)
+
+same-length-4 : tie.Need-same-length-4 Inv-loop μ-loop
+same-length-4 c = search (kept-start, lists-first, listed-short-rows, listed-short-starts, lists-room-rows, lists-room-starts, lists-next, lists-last, lists-end, needs)
+
+returns-4 : tie.Need-returns-4 Inv-loop μ-loop
+returns-4 c = search (kept-start, lists-first, listed-short-rows, listed-short-starts, lists-room-rows, lists-room-starts, lists-next, lists-last, lists-end, needs)
 
 pub put-segments-spec : {M : Type 1} → statement M
 put-segments-spec =
@@ -84,17 +92,20 @@ put-segments-spec =
     returns-2
     cursor-at-requires
     loop-holds
+    same-length
+    same-length-2
+    returns-3
     next-row-requires
+    step-requires
     low16-requires
     low32-requires
     mul-rows
     slice-write-rows
     mul-starts
     slice-write-starts
-    step-requires
     add-k
     loop-less
     loop-again
-    same-length
-    same-length-2
-    returns-3)
+    same-length-3
+    same-length-4
+    returns-4)

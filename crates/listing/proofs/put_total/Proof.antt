@@ -1,5 +1,7 @@
 -- `listing::put_total` meets its contract. Assumes nothing.
-use Rattle.lent.specs.KeptLaws.{kept-start, kept-set}
+use borrow.Author.Needs.{needs}
+use Rattle.listing.specs.Listing.{other, full}
+use Rattle.listing.proofs.Totals.{total-put}
 use borrow.Author.Needs.{needs}
 use Rattle.listing.proofs.put_total.Statement.{statement}
 use Rattle.listing.proofs.put_total.Tie as tie
@@ -8,28 +10,28 @@ use Rattle.listing.proofs.put_total.Lts as lts
 use Rattle.listing.proofs.total_at.Reads as total-at-reads
 
 total-at-requires : tie.Need-total-at-requires
-total-at-requires c κs = search (kept-start, kept-set, needs)
+total-at-requires c κs = search (total-put, other, full, needs)
 
 mul-totals : tie.Need-mul-totals
-mul-totals c = search (kept-start, kept-set, needs)
+mul-totals c = search (total-put, other, full, needs)
 
 slice-write-totals : tie.Need-slice-write-totals
-slice-write-totals c = search (kept-start, kept-set, needs)
+slice-write-totals c = search (total-put, other, full, needs)
 
 add-result : tie.Need-add-result
-add-result c = search (kept-start, kept-set, needs)
+add-result c = search (total-put, other, full, needs)
 
 same-length : tie.Need-same-length
-same-length c = search (kept-start, kept-set, needs)
+same-length c = search (total-put, other, full, needs)
 
 returns : tie.Need-returns
-returns c = search (kept-start, kept-set, needs)
+returns c = search (total-put, other, full, needs)
 
 returns-2 : tie.Need-returns-2
-returns-2 c = search (kept-start, kept-set, needs)
+returns-2 c = search (total-put, other, full, needs)
 
 returns-3 : tie.Need-returns-3
-returns-3 c = search (kept-start, kept-set, needs)
+returns-3 c = search (total-put, other, full, needs)
 
 pub put-total-spec : {M : Type 1} → statement M
 put-total-spec =
