@@ -157,14 +157,14 @@ pub fn segments_before(m: &[u8], v: Service, at: usize) -> usize
 pub fn segment_start(m: &[u8], v: Service, before: usize) -> usize
     ensures { λ r. ⌜ r ≡ startAfter (length (now (m .entry))) before (segmentsFrom v (now (m .entry)) 0) ⌝ }
 {
-    let mut n: usize = 0;
-    let mut i: usize = 0;
-    while n < before {
-        let g = segments::segment_at(m, i, v);
+    let mut k: usize = 0;
+    let mut at: usize = 0;
+    while k < before {
+        let g = segments::segment_at(m, at, v);
         match g {
             Segment::Finished(_, next) => {
-                n += 1;
-                i = next;
+                k += 1;
+                at = next;
             }
             Segment::Unfinished => {
                 return m.len();
@@ -174,5 +174,5 @@ pub fn segment_start(m: &[u8], v: Service, before: usize) -> usize
             }
         }
     }
-    i
+    at
 }

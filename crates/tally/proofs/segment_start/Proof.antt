@@ -14,10 +14,10 @@ use Rattle.tally.proofs.segment_start.Lts as lts
 use Rattle.segments.proofs.segment_at.Reads as segment-at-reads
 
 abbrev Inv-loop : tie.InvT-loop
-Inv-loop m v before n₀ i₀ n i = (startAfter (length m) before (segmentsFrom v m 0) ≡ startAfter (length m) (before - n) (segmentsFrom v m i)) × (i ≤ length m)
+Inv-loop m v before k₀ at₀ k at = (startAfter (length m) before (segmentsFrom v m 0) ≡ startAfter (length m) (before - k) (segmentsFrom v m at)) × (at ≤ length m)
 
 abbrev μ-loop : tie.MeasureT-loop
-μ-loop m v before n₀ i₀ n i = length m - i
+μ-loop m v before k₀ at₀ k at = length m - at
 
 loop-holds : tie.Need-loop-holds Inv-loop μ-loop
 loop-holds c = search (less-segment, after-here, after-nothing, after-unfinished, after-on, after-within, after-start, needs)
@@ -28,8 +28,8 @@ segment-at-requires c κs = search (less-segment, after-here, after-nothing, aft
 enum-known-g : tie.Need-enum-known-g Inv-loop μ-loop
 enum-known-g c = search (less-segment, after-here, after-nothing, after-unfinished, after-on, after-within, after-start, needs)
 
-add-n : tie.Need-add-n Inv-loop μ-loop
-add-n c = search (less-segment, after-here, after-nothing, after-unfinished, after-on, after-within, after-start, needs)
+add-k : tie.Need-add-k Inv-loop μ-loop
+add-k c = search (less-segment, after-here, after-nothing, after-unfinished, after-on, after-within, after-start, needs)
 
 loop-less : tie.Need-loop-less Inv-loop μ-loop
 loop-less c = search (less-segment, after-here, after-nothing, after-unfinished, after-on, after-within, after-start, needs)
@@ -61,7 +61,7 @@ segment-start-spec =
     loop-holds
     segment-at-requires
     enum-known-g
-    add-n
+    add-k
     loop-less
     loop-again
     enum-told
