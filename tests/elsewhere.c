@@ -1,4 +1,4 @@
-/* The calls of include/twineherald.h for a host on a machine that cannot run the library itself: each call is made by the
+/* The calls that examples/host.c makes, for a machine that cannot run the library itself: each call is made by the
  * comparison's driver in a process of its own. TWINEHERALD_DRIVER is the command that starts it. So the host runs under this
  * machine's own sanitizers, which also see every byte that is read or written here of what the host lent. */
 #define _POSIX_C_SOURCE 200809L
@@ -181,22 +181,6 @@ twineherald_step twineherald_walk(const uint8_t *bytes, size_t length, size_t at
     take_lists(c, step.report, rows, rows_length, starts, starts_length, totals, totals_length);
     end(c);
     return step;
-}
-
-twineherald_report twineherald_check(const uint8_t *head, size_t head_length, const uint8_t *message, size_t message_length, uint16_t *rows,
-                                     size_t rows_length, uint32_t *starts, size_t starts_length, uint64_t *totals, size_t totals_length)
-{
-    lent_lists(rows, rows_length, starts, starts_length, totals, totals_length);
-    call c = begin(head, head_length);
-    putc('k', c.ask), putc(0, c.ask), putc(1, c.ask), putc(0, c.ask);
-    put_number(c.ask, message_length, NUMBER);
-    put_bytes(c.ask, message, message_length);
-    put_number(c.ask, rows_length, NUMBER), put_number(c.ask, starts_length, NUMBER), put_number(c.ask, totals_length, NUMBER);
-    ask(c, 'k');
-    twineherald_report report = take_report(c);
-    take_lists(c, report, rows, rows_length, starts, starts_length, totals, totals_length);
-    end(c);
-    return report;
 }
 
 twineherald_closing twineherald_close(const uint8_t *bytes, size_t length)

@@ -132,13 +132,17 @@ stands-first v m c h = let e : c .at ≡ 0 = h .at in record {
   tagged = tagged-first v m 0 c h;
 }
 
-tail-of : (l : List ℕ) (i x : ℕ) (xs : List ℕ) → drop i l ≡ x ∷ xs → drop (i + 1) l ≡ xs
+-- what is left of a list, one by one
+pub tail-of : (l : List ℕ) (i x : ℕ) (xs : List ℕ) → drop i l ≡ x ∷ xs → drop (i + 1) l ≡ xs
 tail-of l i x xs e = sym (drop-drop 1 i l) ∙ ap (drop 1) e
 
-module _ (v : Service) (m : List ℕ) (i : ℕ) (c : Cursor) (s : Stands v m i c) where
-  at-most : (l : List ℕ) (n : ℕ) → length (drop n l) ≡ 0 → length l ≤ n
-  at-most l n e = omega (arith, length-drop n l)
+pub head-of : (l : List ℕ) (i x d : ℕ) (xs : List ℕ) → drop i l ≡ x ∷ xs → getD l i d ≡ x
+head-of l i x d xs e = let z : i ≡ i + 0 = omega arith in ap (λ (n : ℕ). getD l n d) z ∙ sym (getD-drop i l 0 d) ∙ ap (λ (k : List ℕ). getD k 0 d) e
 
+pub none-of : (l : List ℕ) (n : ℕ) → length (drop n l) ≡ 0 → length l ≤ n
+none-of l n e = omega (arith, length-drop n l)
+
+module _ (v : Service) (m : List ℕ) (i : ℕ) (c : Cursor) (s : Stands v m i c) where
   -- a segment is left: its tag and its start
   pub stands-lt : c .at < length m → i < length (tagsOf v m)
   stands-lt h =
@@ -155,17 +159,14 @@ module _ (v : Service) (m : List ℕ) (i : ℕ) (c : Cursor) (s : Stands v m i c
     tagged = p .tagged;
   }
 
-  first-at : (l : List ℕ) (x d : ℕ) (xs : List ℕ) → drop i l ≡ x ∷ xs → getD l i d ≡ x
-  first-at l x d xs e = let z : i ≡ i + 0 = omega arith in ap (λ (n : ℕ). getD l n d) z ∙ sym (getD-drop i l 0 d) ∙ ap (λ (k : List ℕ). getD k 0 d) e
-
   pub stands-tag : c .at < length m → getD (tagsOf v m) i 0 ≡ c .tag
   stands-tag h =
       let p = passes-by v m c h (segmentAt v (c .at) m) refl in
-      first-at _ _ 0 _ (s .tags ∙ p .tags) ∙ sym (s .tagged .tag)
+      head-of _ i _ 0 _ (s .tags ∙ p .tags) ∙ sym (s .tagged .tag)
 
   -- no segment is left
   pub stands-ge : length m ≤ c .at → length (tagsOf v m) ≤ i
-  stands-ge h = at-most (tagsOf v m) i (ap length (s .tags ∙ tags-past v m (c .at) h))
+  stands-ge h = none-of (tagsOf v m) i (ap length (s .tags ∙ tags-past v m (c .at) h))
 
   pub stands-none : length m ≤ c .at → c .tag ≡ 0
   stands-none h = s .tagged .tag ∙ tag-past v m (c .at) h
@@ -177,11 +178,11 @@ module _ (v : Service) (m : List ℕ) (i : ℕ) (c : Cursor) (s : Stands v m i c
       go : Dec (c .at < length m) → c .at ≡ getD (startsOf v m) i (length m)
       go (yes h) =
           let p = passes-by v m c h (segmentAt v (c .at) m) refl in
-          sym (first-at _ _ (length m) _ (s .starts ∙ p .starts))
+          sym (head-of _ i _ (length m) _ (s .starts ∙ p .starts))
       go (no n) =
           let h : length m ≤ c .at = omega arith in
           let e : c .at ≡ length m = omega (arith, s .within) in
-          e ∙ sym (List·getD-eq-default (startsOf v m) (length m) (at-most (startsOf v m) i (ap length (s .starts ∙ starts-past v m (c .at) h))))
+          e ∙ sym (List·getD-eq-default (startsOf v m) (length m) (none-of (startsOf v m) i (ap length (s .starts ∙ starts-past v m (c .at) h))))
 
   -- how many segments there are, past the last one
   pub stands-all : length m ≤ c .at → i ≡ length (tagsOf v m)

@@ -7,6 +7,7 @@ use lib.Dec.{eqb, ltb}
 use Rattle.service.specs.declared.Service.{Service}
 use Rattle.segments.specs.Classes.{if}
 use Rattle.segments.specs.SegmentList.{Piece, finished, unfinished, segmentsAfter}
+pub use Rattle.segments.specs.SegmentList.{startOf}
 use Rattle.values.specs.Values.{valueFrom, codeOf}
 use Rattle.interchange.specs.declared.Found.{Found}
 use Rattle.interchange.specs.declared.Found.the-variants as found
@@ -27,11 +28,6 @@ UNT = 22367828
 
 abbrev pub UNZ : ℕ
 UNZ = 22367834
-
--- where a segment begins
-abbrev pub startOf : Piece → ℕ
-startOf (finished a t) = a
-startOf (unfinished a e) = a
 
 -- whether no segment is left
 abbrev pub isNone : List Piece → Bool
@@ -144,9 +140,3 @@ foundIn v s l = foundBy (messagesOf v s l) l
 -- "one call finds the next message from there ..: the bytes from it are read as though a terminator stood just before"
 abbrev pub foundFrom : Service → List ℕ → ℕ → Found
 foundFrom v s at = foundIn v s (segmentsAfter v s at)
-
--- the table's number of each answer: 4 for "an unfinished segment before the found message's end, or anywhere if none is found", else none
-abbrev pub foundNumber : Found → ℕ
-foundNumber (found.Message a e) = 0
-foundNumber found.Nothing = 0
-foundNumber found.Unfinished = 4

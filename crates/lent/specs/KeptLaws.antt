@@ -14,16 +14,6 @@ module _ (n : ℕ) (old cur : List ℕ) (g : Kept n old cur) (k : ℕ) (h : k < 
   pub kept-set : (x : ℕ) → Kept n old (set cur k x)
   kept-set x = record { long = length-set cur k x ∙ g .long; rest = drop-set-lt n cur k x h ∙ g .rest }
 
-  pub kept-room : n ≤ length old → k < length cur
-  kept-room r = let l = g .long in omega arith
-
-module _ (n : ℕ) (old cur : List ℕ) (g : Kept n old cur) where
-  pub kept-more : (new : List ℕ) → Kept n cur new → Kept n old new
-  kept-more new h = record { long = h .long ∙ g .long; rest = h .rest ∙ g .rest }
-
-  pub kept-fits : n ≤ length old → n ≤ length cur
-  kept-fits r = let l = g .long in omega arith
-
 -- ---- writing from a place on
 further : (j k : ℕ) (a b : List ℕ) → j ≤ k → drop j b ≡ drop j a → drop k b ≡ drop k a
 further j k a b h e =

@@ -5,8 +5,7 @@ use mathlib.Core.Path.{_≡_, refl, sym, _∙_, ap, subst}
 use mathlib.Core.Bool.{Bool, false}
 use mathlib.Core.List.{List, [], _∷_}
 use lib.Dec.{eqb}
-use lib.ListN.{length, drop, set, getD, length-drop}
-use lib.Seq.{drop-drop, getD-drop}
+use lib.ListN.{length, drop, set, length-drop}
 use borrow.Author.Tests.{eq-eqb, ne-eqb}
 use Rattle.service.specs.declared.Service.{Service}
 use Rattle.parts.specs.Lex.{lex, valueOf}
@@ -20,7 +19,7 @@ use Rattle.lent.specs.OverLaws.{written-start, written-set, written-all}
 use Rattle.chart.specs.declared.Cursor.{Cursor}
 use Rattle.chart.specs.Machine.{pick, rowsBy}
 use Rattle.chart.specs.Cursor.{CursorIs, Stepped, Tagged}
-use Rattle.chart.specs.CursorLaws.{passes, tagged-first, tagged-next}
+use Rattle.chart.specs.CursorLaws.{tail-of, head-of, none-of, passes, tagged-first, tagged-next}
 use Rattle.chart.specs.Tags.{startsFrom, tagsFrom}
 use Rattle.chart.specs.Next.{nextRow}
 use Rattle.chart.proofs.Stream.{left-rows, left-none}
@@ -63,19 +62,8 @@ from-first : (v : Service) (m : List ℕ) (i : ℕ) → i ≡ 0 → totalsOf v m
 unfolding totalsFrom totalsOf
 from-first v m i e = rw e
 
--- ---- what is left of a list, one by one
-module _ (l : List ℕ) (k x : ℕ) (xs : List ℕ) (e : drop k l ≡ x ∷ xs) where
-  left-lt : k < length l
-  left-lt = let n = sym (length-drop k l) ∙ ap length e in omega arith
-
-  left-here : x ≡ getD l k 0
-  left-here = let z : k + 0 ≡ k = omega arith in sym (ap (λ (n : ℕ). getD l n 0) (sym z) ∙ sym (getD-drop k l 0 0) ∙ ap (λ (r : List ℕ). getD r 0 0) e)
-
-  left-on : drop (k + 1) l ≡ xs
-  left-on = sym (drop-drop 1 k l) ∙ ap (drop 1) e
-
-left-end : (l : List ℕ) (k : ℕ) → drop k l ≡ [] → length l ≤ k
-left-end l k e = let n = sym (length-drop k l) ∙ ap length e in omega arith
+left-lt : (l : List ℕ) (k x : ℕ) (xs : List ℕ) → drop k l ≡ x ∷ xs → k < length l
+left-lt l k x xs e = let n = sym (length-drop k l) ∙ ap length e in omega arith
 
 -- ---- k totals are listed, the cursor c stands at a segment and row is that of the one before it: the totals were t₀ and are t
 pub record Totals (v : Service) (m : List ℕ) (count k row : ℕ) (c : Cursor) (t₀ t : List ℕ) : Type 0 where
@@ -107,8 +95,8 @@ module _ (v : Service) (m : List ℕ) (count k row : ℕ) (c : Cursor) (t₀ t :
       record {
         tagged = tagged-next v m c d (i .tagged) s;
         some = omega arith;
-        left = left-on _ k _ _ f;
-        totals = written-set k _ t₀ t (i .totals) _ (left-lt _ k _ _ f) (omega arith) (left-here _ k _ _ f);
+        left = tail-of _ k _ _ f;
+        totals = written-set k _ t₀ t (i .totals) _ (left-lt _ k _ _ f) (omega arith) (sym (head-of _ k _ 0 _ f));
         kept = kept-set count t₀ t (i .kept) k lt _;
       }
   totals-next lt h x e t′ n (other q) d s = record {
@@ -129,4 +117,4 @@ module _ (v : Service) (m : List ℕ) (count k row : ℕ) (c : Cursor) (t₀ t :
 
   -- no segment is left
   pub totals-end : length m ≤ c .at → Totalled v m count t₀ t
-  totals-end le = totalled-by count refl (written-all k _ t₀ t (i .totals) count (i .some) (left-end _ k (i .left ∙ from-none v m c le row)))
+  totals-end le = totalled-by count refl (written-all k _ t₀ t (i .totals) count (i .some) (none-of _ k (ap length (i .left ∙ from-none v m c le row))))

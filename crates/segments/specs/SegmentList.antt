@@ -13,6 +13,11 @@ use Rattle.segments.specs.Classes.{if, classOf, isBreak}
 pub data Piece : Type 0 where
   finished unfinished : ℕ → ℕ → Piece
 
+-- where a segment begins
+abbrev pub startOf : Piece → ℕ
+startOf (finished a t) = a
+startOf (unfinished a e) = a
+
 -- where a byte stands: between segments, at a segment's first byte, inside one, or inside one and after a release
 pub data Mode : Type 0 where
   gap first inside held : Mode

@@ -88,18 +88,6 @@ module _ (v : Service) (s : List ℕ) (i : ℕ) (k : Segment) (c : k ≡ segment
   pub less-segment : length s - n < length s - i
   less-segment = let w = lies v s i k c t n e in omega arith
 
-  pub segment-on : i ≤ n
-  segment-on = let w = lies v s i k c t n e in omega arith
-
-  pub segment-ends : (m : ℕ) → m ≤ i → m ≤ t + 1
-  segment-ends m h = let w = lies v s i k c t n e in omega arith
-
-  pub segment-end-within : t + 1 ≤ length s
-  segment-end-within = let w = lies v s i k c t n e in omega arith
-
-  pub segment-start-within : i ≤ length s
-  segment-start-within = let w = lies v s i k c t n e in omega arith
-
   pub segment-end-fits : length s < 2 ^ 64 → Fits w64 (t + 1)
   segment-end-fits h = let w = lies v s i k c t n e in omega arith
 

@@ -1,13 +1,9 @@
 -- Which segment a byte stands in, and where a segment stands.
-use Prim.Native.Nat.{ℕ, suc, zero, _+_}
+use Prim.Native.Nat.{ℕ, suc, zero}
 use mathlib.Core.List.{List, [], _∷_}
 use mathlib.Core.Bool.{Bool, true, false}
 use lib.Dec.{ltb}
-use Rattle.segments.specs.SegmentList.{Piece, finished, unfinished}
-
-abbrev pub startOf : Piece → ℕ
-startOf (finished a t) = a
-startOf (unfinished a e) = a
+use Rattle.segments.specs.SegmentList.{Piece, finished, unfinished, startOf}
 
 -- where the first of some segments begins, or, of none, the end of the text
 abbrev pub nextStart : ℕ → List Piece → ℕ

@@ -18,7 +18,7 @@ use Rattle.segments.specs.Segments.{segmentAt}
 use Rattle.segments.specs.SegmentsLaws.{lies, segment-nothing, segment-finished, segment-unfinished}
 use Rattle.segments.specs.SegmentList.{Piece, finished, unfinished, segmentsFrom}
 use Rattle.segments.specs.ListLaws.{list-nothing, list-finished, list-unfinished}
-use Rattle.tally.specs.Places.{startOf, nextStart, passBy, passed, startAfter}
+use Rattle.tally.specs.Places.{nextStart, passBy, passed, startAfter}
 
 -- the segments from a place on begin there, or none is left
 starts-by : (v : Service) (m : List ℕ) (n : ℕ) → n < length m → (k : End) → k ≡ endFrom v false n (drop n m) → nextStart (length m) (segmentsFrom v m n) ≡ n

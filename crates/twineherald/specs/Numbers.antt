@@ -11,6 +11,7 @@ use Rattle.report.specs.Lists as reported
 use Rattle.walk.specs.declared.Walked.{Walked}
 use Rattle.walk.specs.declared.Walked.the-variants as walk
 use Rattle.walk.specs.Lists as walked
+use Rattle.walk.specs.Frame.{stepTold, stepFrom}
 use Rattle.rewrite.specs.declared.Rewriting.{Rewriting}
 use Rattle.rewrite.specs.declared.Rewriting.the-variants as rewrite
 use Rattle.rewrite.specs.Room as rewritten
@@ -58,9 +59,9 @@ rewritingOf (rewrite.Refused f) = record { number = f .number; length = 0 }
 abbrev pub closingNumbers : Closing → ClosingNumbers
 closingNumbers c = record { number = c .number; messages = c .messages % 4294967296; strays = c .strays % 4294967296 }
 
--- the numbers are those of an answer, and the lists are as that answer leaves them
-pub data Stepped : StepNumbers → List ℕ → List ℕ → List ℕ → List ℕ → List ℕ → List ℕ → Type 0 where
-  stepped : (w : Walked) (x : StepNumbers) (r r′ s s′ t t′ : List ℕ) → walked.Lists w r r′ s s′ t t′ → x ≡ stepOf w → Stepped x r r′ s s′ t t′
+-- the numbers are those of an answer, the lists are as that answer leaves them, and it tells what the walk finds in the bytes b from at on
+pub data Stepped (b : List ℕ) (at : ℕ) : StepNumbers → List ℕ → List ℕ → List ℕ → List ℕ → List ℕ → List ℕ → Type 0 where
+  stepped : (w : Walked) (x : StepNumbers) (r r′ s s′ t t′ : List ℕ) → walked.Lists w r r′ s s′ t t′ → stepTold w ≡ stepFrom b at → x ≡ stepOf w → Stepped b at x r r′ s s′ t t′
 
 pub data Reported : ReportNumbers → List ℕ → List ℕ → List ℕ → List ℕ → List ℕ → List ℕ → Type 0 where
   reported-as : (w : Report) (x : ReportNumbers) (r r′ s s′ t t′ : List ℕ) → reported.Lists w r r′ s s′ t t′ → x ≡ reportOf w → Reported x r r′ s s′ t t′

@@ -15,6 +15,7 @@ use Rattle.report.specs.Lists as reported
 use Rattle.walk.specs.declared.Walked.{Walked}
 use Rattle.walk.specs.declared.Walked.the-variants as walk
 use Rattle.walk.specs.Lists as walked
+use Rattle.walk.specs.Frame.{stepTold, stepFrom}
 use Rattle.rewrite.specs.declared.Rewriting.{Rewriting}
 use Rattle.rewrite.specs.declared.Rewriting.the-variants as rewrite
 use Rattle.rewrite.specs.Room as rewritten
@@ -49,15 +50,15 @@ module _ (w : Report) (x : ReportNumbers) where
   pub report-refused : (c : Refusal) → w ≡ report.Refused c → x ≡ refusedOf c → x ≡ reportOf w
   report-refused c e f = f ∙ sym (ap reportOf e)
 
-module _ (w : Walked) (r r′ s s′ t t′ : List ℕ) (l : walked.Lists w r r′ s s′ t t′) (x : StepNumbers) (y : ReportNumbers) where
-  pub step-message : (a e : ℕ) (z : Report) → w ≡ walk.Message a e z → y ≡ reportOf z → x ≡ stepWith 1 a e y → Stepped x r r′ s s′ t t′
-  step-message a e z q g f = stepped w x r r′ s s′ t t′ l (f ∙ ap (stepWith 1 a e) g ∙ sym (ap stepOf q))
+module _ (b : List ℕ) (at : ℕ) (w : Walked) (h : stepTold w ≡ stepFrom b at) (r r′ s s′ t t′ : List ℕ) (l : walked.Lists w r r′ s s′ t t′) (x : StepNumbers) (y : ReportNumbers) where
+  pub step-message : (a e : ℕ) (z : Report) → w ≡ walk.Message a e z → y ≡ reportOf z → x ≡ stepWith 1 a e y → Stepped b at x r r′ s s′ t t′
+  step-message a e z q g f = stepped w x r r′ s s′ t t′ l h (f ∙ ap (stepWith 1 a e) g ∙ sym (ap stepOf q))
 
-  pub step-nothing : w ≡ walk.Nothing → y ≡ nothingOf → x ≡ stepWith 0 0 0 y → Stepped x r r′ s s′ t t′
-  step-nothing q g f = stepped w x r r′ s s′ t t′ l (f ∙ ap (stepWith 0 0 0) g ∙ sym (ap stepOf q))
+  pub step-nothing : w ≡ walk.Nothing → y ≡ nothingOf → x ≡ stepWith 0 0 0 y → Stepped b at x r r′ s s′ t t′
+  step-nothing q g f = stepped w x r r′ s s′ t t′ l h (f ∙ ap (stepWith 0 0 0) g ∙ sym (ap stepOf q))
 
-  pub step-refused : (c : Refusal) → w ≡ walk.Refused c → y ≡ refusedOf c → x ≡ stepWith 0 0 0 y → Stepped x r r′ s s′ t t′
-  step-refused c q g f = stepped w x r r′ s s′ t t′ l (f ∙ ap (stepWith 0 0 0) g ∙ sym (ap stepOf q))
+  pub step-refused : (c : Refusal) → w ≡ walk.Refused c → y ≡ refusedOf c → x ≡ stepWith 0 0 0 y → Stepped b at x r r′ s s′ t t′
+  step-refused c q g f = stepped w x r r′ s s′ t t′ l h (f ∙ ap (stepWith 0 0 0) g ∙ sym (ap stepOf q))
 
 pub report-head : (f : Refusal) (x : ReportNumbers) (r s t : List ℕ) → x ≡ refusedOf f → Reported x r r s s t t
 report-head f x r s t e = reported-as (report.Refused f) x r r s s t t (reported.unchanged f r s t) e

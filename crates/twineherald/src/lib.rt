@@ -126,7 +126,7 @@ pub extern "C" fn twineherald_walk(
     starts: &mut [u32],
     totals: &mut [u64],
 ) -> StepNumbers
-    ensures { λ x. ⌜ Stepped x (now (rows .entry)) (now (rows .exit)) (now (starts .entry)) (now (starts .exit)) (now (totals .entry)) (now (totals .exit)) ⌝ }
+    ensures { λ x. ⌜ Stepped (now (bytes .entry)) at x (now (rows .entry)) (now (rows .exit)) (now (starts .entry)) (now (starts .exit)) (now (totals .entry)) (now (totals .exit)) ⌝ }
 {
     let w = walk::walk(bytes, at, rows, starts, totals);
     match w {

@@ -1,2 +1,4 @@
 pub mod Lists
 pub mod ListsLaws
+pub mod Frame
+pub mod FrameLaws

@@ -1,6 +1,8 @@
 // The next message of an interchange from any position, found and judged.
-ghost use Rattle.walk.specs.Lists.{Lists, Place};
+ghost use mathlib.Core.Path.{_≡_};
 ghost use lib.ListN.{length};
+ghost use Rattle.walk.specs.Frame.{stepAt, stepFrom, stepTold};
+ghost use Rattle.walk.specs.Lists.{Lists, Place};
 use interchange::Found;
 use interchange::Refusal;
 use report::Report;
@@ -25,6 +27,7 @@ fn walk_with(
 ) -> Walked
     ensures { λ r. ⌜ Lists r (now (rows .entry)) (now (rows .exit)) (now (starts .entry)) (now (starts .exit)) (now (totals .entry)) (now (totals .exit)) ⌝ }
     ensures { λ r. ⌜ Place (length (now (s .entry))) at r ⌝ }
+    ensures { λ r. ⌜ stepTold r ≡ stepAt v (now (s .entry)) at ⌝ }
 {
     if s.len() < at {
         return Walked::Refused(interchange::refuse(8));
@@ -44,6 +47,7 @@ fn walk_with(
 pub fn walk(s: &[u8], at: usize, rows: &mut [u16], starts: &mut [u32], totals: &mut [u64]) -> Walked
     ensures { λ r. ⌜ Lists r (now (rows .entry)) (now (rows .exit)) (now (starts .entry)) (now (starts .exit)) (now (totals .entry)) (now (totals .exit)) ⌝ }
     ensures { λ r. ⌜ Place (length (now (s .entry))) at r ⌝ }
+    ensures { λ r. ⌜ stepTold r ≡ stepFrom (now (s .entry)) at ⌝ }
 {
     if interchange::MOST < s.len() {
         return Walked::Refused(interchange::refuse(1));

@@ -1,6 +1,7 @@
 -- `walk::walk_with` meets its contract. Assumes nothing.
 use Rattle.walk.specs.Lists.{found, nothing, refused, no-place, no-walk}
 use Rattle.walk.specs.ListsLaws.{part-order, part-within, part-ahead}
+use Rattle.walk.specs.FrameLaws.{step-past, step-message, step-nothing, step-unfinished}
 use borrow.Author.Needs.{needs}
 use Rattle.walk.proofs.walk_with.Statement.{statement}
 use Rattle.walk.proofs.walk_with.Tie as tie
@@ -11,55 +12,55 @@ use Rattle.interchange.proofs.refuse.Reads as refuse-reads
 use Rattle.report.proofs.check.Reads as check-reads
 
 refuse-requires : tie.Need-refuse-requires
-refuse-requires c κs = search (found, nothing, refused, no-place, no-walk, part-order, part-within, part-ahead, needs)
+refuse-requires c κs = search (found, nothing, refused, no-place, no-walk, part-order, part-within, part-ahead, step-past, step-message, step-nothing, step-unfinished, needs)
 
 returns : tie.Need-returns
-returns c = search (found, nothing, refused, no-place, no-walk, part-order, part-within, part-ahead, needs)
+returns c = search (found, nothing, refused, no-place, no-walk, part-order, part-within, part-ahead, step-past, step-message, step-nothing, step-unfinished, needs)
 
 find-requires : tie.Need-find-requires
-find-requires c κs = search (found, nothing, refused, no-place, no-walk, part-order, part-within, part-ahead, needs)
+find-requires c κs = search (found, nothing, refused, no-place, no-walk, part-order, part-within, part-ahead, step-past, step-message, step-nothing, step-unfinished, needs)
 
 enum-known-f : tie.Need-enum-known-f
-enum-known-f c = search (found, nothing, refused, no-place, no-walk, part-order, part-within, part-ahead, needs)
+enum-known-f c = search (found, nothing, refused, no-place, no-walk, part-order, part-within, part-ahead, step-past, step-message, step-nothing, step-unfinished, needs)
 
 sub-check : tie.Need-sub-check
-sub-check c = search (found, nothing, refused, no-place, no-walk, part-order, part-within, part-ahead, needs)
+sub-check c = search (found, nothing, refused, no-place, no-walk, part-order, part-within, part-ahead, step-past, step-message, step-nothing, step-unfinished, needs)
 
 part-check-start : tie.Need-part-check-start
-part-check-start c = search (found, nothing, refused, no-place, no-walk, part-order, part-within, part-ahead, needs)
+part-check-start c = search (found, nothing, refused, no-place, no-walk, part-order, part-within, part-ahead, step-past, step-message, step-nothing, step-unfinished, needs)
 
 part-check-end : tie.Need-part-check-end
-part-check-end c = search (found, nothing, refused, no-place, no-walk, part-order, part-within, part-ahead, needs)
+part-check-end c = search (found, nothing, refused, no-place, no-walk, part-order, part-within, part-ahead, step-past, step-message, step-nothing, step-unfinished, needs)
 
 check-requires : tie.Need-check-requires
-check-requires c κs = search (found, nothing, refused, no-place, no-walk, part-order, part-within, part-ahead, needs)
+check-requires c κs = search (found, nothing, refused, no-place, no-walk, part-order, part-within, part-ahead, step-past, step-message, step-nothing, step-unfinished, needs)
 
 enum-told : tie.Need-enum-told
-enum-told c = search (found, nothing, refused, no-place, no-walk, part-order, part-within, part-ahead, needs)
+enum-told c = search (found, nothing, refused, no-place, no-walk, part-order, part-within, part-ahead, step-past, step-message, step-nothing, step-unfinished, needs)
 
 enum-told-2 : tie.Need-enum-told-2
-enum-told-2 c = search (found, nothing, refused, no-place, no-walk, part-order, part-within, part-ahead, needs)
+enum-told-2 c = search (found, nothing, refused, no-place, no-walk, part-order, part-within, part-ahead, step-past, step-message, step-nothing, step-unfinished, needs)
 
 refuse-requires-2 : tie.Need-refuse-requires-2
-refuse-requires-2 c κs = search (found, nothing, refused, no-place, no-walk, part-order, part-within, part-ahead, needs)
+refuse-requires-2 c κs = search (found, nothing, refused, no-place, no-walk, part-order, part-within, part-ahead, step-past, step-message, step-nothing, step-unfinished, needs)
 
 same-length : tie.Need-same-length
-same-length c = search (found, nothing, refused, no-place, no-walk, part-order, part-within, part-ahead, needs)
+same-length c = search (found, nothing, refused, no-place, no-walk, part-order, part-within, part-ahead, step-past, step-message, step-nothing, step-unfinished, needs)
 
 same-length-2 : tie.Need-same-length-2
-same-length-2 c = search (found, nothing, refused, no-place, no-walk, part-order, part-within, part-ahead, needs)
+same-length-2 c = search (found, nothing, refused, no-place, no-walk, part-order, part-within, part-ahead, step-past, step-message, step-nothing, step-unfinished, needs)
 
 same-length-3 : tie.Need-same-length-3
-same-length-3 c = search (found, nothing, refused, no-place, no-walk, part-order, part-within, part-ahead, needs)
+same-length-3 c = search (found, nothing, refused, no-place, no-walk, part-order, part-within, part-ahead, step-past, step-message, step-nothing, step-unfinished, needs)
 
 returns-2 : tie.Need-returns-2
-returns-2 c = search (found, nothing, refused, no-place, no-walk, part-order, part-within, part-ahead, needs)
+returns-2 c = (search (found, needs), (search (part-ahead, needs), search (step-message, needs)))
 
 returns-3 : tie.Need-returns-3
-returns-3 c = search (found, nothing, refused, no-place, no-walk, part-order, part-within, part-ahead, needs)
+returns-3 c = search (found, nothing, refused, no-place, no-walk, part-order, part-within, part-ahead, step-past, step-message, step-nothing, step-unfinished, needs)
 
 returns-4 : tie.Need-returns-4
-returns-4 c = search (found, nothing, refused, no-place, no-walk, part-order, part-within, part-ahead, needs)
+returns-4 c = search (found, nothing, refused, no-place, no-walk, part-order, part-within, part-ahead, step-past, step-message, step-nothing, step-unfinished, needs)
 
 pub walk-with-spec : {M : Type 1} → statement M
 walk-with-spec =
