@@ -1,31 +1,33 @@
 // The amounts of an order and of its payments: form, qualifier, currency, exchange and total, rules 22 to 26.
+ghost use Prim.Native.Nat.{_+_, min};
+ghost use mathlib.Core.Path.{_≡_};
+ghost use mathlib.Core.Bool.{true, false, not, _&&_, _||_};
+ghost use Rattle.values.specs.Values.{amountOf, sameList, valueIn};
+ghost use Rattle.message.specs.Text.{says};
+ghost use Rattle.message.specs.Segs.{segAt};
+ghost use Rattle.message.specs.Rules.{isOf, worth, capitals, firstHolds, secondHolds, cuxHolds};
+ghost use Rattle.message.specs.ValueLaws.{most};
+ghost use Rattle.amounts.specs.Steps.{orderOf, sumsOf, sumsStart, sumsStep, sumsClose, baseBy, basesBy, noOrder, orderEnded, withForm, exchanged, paid};
 use faults::First;
 use service::Service;
 use values::Amount;
 
-// What an MOA says. An amount without the form counts 0.
-pub struct Moa {
-    pub formed: bool,
-    pub amount: u64,
-    pub qualifier: u64,
-    pub currency: u64,
-}
-
-// An order so far: its own MOA and where it stands, whether a CUX came, and the sum of its payments.
+// An order from its own MOA on, if one came: the MOA's number and where it begins, whether a CUX came, and the sum of its payments.
 pub struct Order {
-    pub at: First,
-    pub moa: Moa,
+    pub live: bool,
+    pub nth: usize,
+    pub at: usize,
     pub exchanged: bool,
     pub sum: u64,
 }
 
 pub struct Amounts {
     pub order: Order,
-    pub bad_form: First,
-    pub bad_qualifier: First,
-    pub bad_currency: First,
-    pub bad_exchange: First,
-    pub bad_total: First,
+    pub first22: First,
+    pub first23: First,
+    pub first24: First,
+    pub first25: First,
+    pub first26: First,
 }
 
 const NINE: u64 = 0x0139;
@@ -35,261 +37,335 @@ const FIFTY_SEVEN: u64 = 0x0001_3537;
 const EMPTY: u64 = 1;
 
 // An order whose MOA has not come.
-fn new_order() -> Order {
+fn no_order() -> Order
+    ensures { λ r. ⌜ r ≡ noOrder ⌝ }
+{
     Order {
-        at: First::None,
-        moa: Moa {
-            formed: false,
-            amount: 0,
-            qualifier: 0,
-            currency: 0,
-        },
+        live: false,
+        nth: 0,
+        at: 0,
         exchanged: false,
         sum: 0,
     }
 }
 
-pub fn start() -> Amounts {
+pub fn start() -> Amounts
+    ensures { λ r. ⌜ r ≡ sumsStart ⌝ }
+{
     Amounts {
-        order: new_order(),
-        bad_form: First::None,
-        bad_qualifier: First::None,
-        bad_currency: First::None,
-        bad_exchange: First::None,
-        bad_total: First::None,
+        order: no_order(),
+        first22: First::None,
+        first23: First::None,
+        first24: First::None,
+        first25: First::None,
+        first26: First::None,
     }
 }
 
-// What the MOA at `at` says.
-pub fn read_moa(m: &[u8], v: Service, at: usize) -> Moa {
-    let qualifier = values::code_in(m, at, v, 1, 0);
-    let currency = values::code_in(m, at, v, 1, 2);
+// Whether the amount of the MOA at `at` has the form.
+fn is_formed(m: &[u8], v: Service, at: usize) -> bool
+    ensures { λ r. ⌜ r ≡ isOf (amountOf (valueIn v at (now (m .entry)) 1 1)) ⌝ }
+{
     let p = parts::component(m, at, v, 1, 1);
     let a = values::amount_at(m, p, v);
     match a {
-        Amount::Of(amount) => Moa {
-            formed: true,
-            amount,
-            qualifier,
-            currency,
-        },
-        Amount::Not => Moa {
-            formed: false,
-            amount: 0,
-            qualifier,
-            currency,
-        },
+        Amount::Of(_) => true,
+        Amount::Not => false,
     }
 }
 
-fn is_qualifier(code: u64) -> bool {
-    if code == NINE {
-        return true;
-    }
-    code == FIFTY_SEVEN
-}
-
-// An order's own MOA.
-fn order_moa(st: Amounts, m: &[u8], v: Service, at: usize) -> Amounts {
-    let moa = read_moa(m, v, at);
-    let f = st.bad_form;
-    let q = st.bad_qualifier;
-    let c = st.bad_currency;
-    let bad_form = faults::keep(f, moa.formed, at);
-    let bad_qualifier = faults::keep(q, is_qualifier(moa.qualifier), at);
-    let bad_currency = faults::keep(c, values::is_capitals(moa.currency), at);
-    let bad_exchange = st.bad_exchange;
-    let bad_total = st.bad_total;
-    Amounts {
-        order: Order {
-            at: First::At(at),
-            moa,
-            exchanged: false,
-            sum: 0,
-        },
-        bad_form,
-        bad_qualifier,
-        bad_currency,
-        bad_exchange,
-        bad_total,
+// The amount of the MOA at `at`. One without the form counts 0.
+fn worth_at(m: &[u8], v: Service, at: usize) -> u64
+    ensures { λ r. ⌜ r ≡ worth (amountOf (valueIn v at (now (m .entry)) 1 1)) ⌝ }
+{
+    let p = parts::component(m, at, v, 1, 1);
+    let a = values::amount_at(m, p, v);
+    match a {
+        Amount::Of(n) => n,
+        Amount::Not => 0,
     }
 }
 
-// The sum with one amount more. Amounts are below 10^15 and payments at most 9,999, so it never stops at the end of the range.
-fn add(sum: u64, amount: u64) -> u64 {
+// Whether the qualifier of the MOA at `at` is 57.
+fn is_exchange(m: &[u8], v: Service, at: usize) -> bool
+    ensures { λ r. ⌜ r ≡ says (valueIn v at (now (m .entry)) 1 0) "57" ⌝ }
+{
+    values::code_in(m, at, v, 1, 0) == FIFTY_SEVEN
+}
+
+// Whether it is 9 or 57.
+fn has_qualifier(m: &[u8], v: Service, at: usize) -> bool
+    ensures { λ r. ⌜ r ≡ says (valueIn v at (now (m .entry)) 1 0) "9" || says (valueIn v at (now (m .entry)) 1 0) "57" ⌝ }
+{
+    let code = values::code_in(m, at, v, 1, 0);
+    truth::either(code == NINE, code == FIFTY_SEVEN)
+}
+
+// Whether the currency of the MOA at `at` is three capitals.
+fn has_currency(m: &[u8], v: Service, at: usize) -> bool
+    ensures { λ r. ⌜ r ≡ capitals (valueIn v at (now (m .entry)) 1 2) ⌝ }
+{
+    values::is_capitals(values::code_in(m, at, v, 1, 2))
+}
+
+// Whether component `c` of element `e` of the segment at `at` is the component `d` of the first element of the one at `own`.
+fn same_in(m: &[u8], v: Service, at: usize, e: usize, c: usize, own: usize, d: usize) -> bool
+    ensures { λ r. ⌜ r ≡ sameList (valueIn v at (now (m .entry)) e c) (valueIn v own (now (m .entry)) 1 d) ⌝ }
+{
+    let p = parts::component(m, at, v, e, c);
+    let q = parts::component(m, own, v, 1, d);
+    values::same_value(m, p, q, v)
+}
+
+// A rate base is 1, 100 or 1000.
+fn is_base(code: u64) -> bool
+    ensures { λ r. ⌜ r ≡ baseBy code ⌝ }
+{
+    let short = truth::either(code == 0x0131, code == 0x0131_3030);
+    truth::either(short, code == 0x0001_3130_3030)
+}
+
+// At most one of the two bases is given, and only with a rate.
+fn bases_hold(a: u64, b: u64, rate: u64) -> bool
+    ensures { λ r. ⌜ r ≡ basesBy a b rate ⌝ }
+{
+    let none = truth::both(a == EMPTY, b == EMPTY);
+    let second = truth::both(a == EMPTY, is_base(b));
+    let first = truth::both(is_base(a), b == EMPTY);
+    let one = truth::either(second, first);
+    let rated = truth::both(rate != EMPTY, one);
+    truth::either(none, rated)
+}
+
+// Whether the CUX at `at` names the order's currency first.
+fn names_own(m: &[u8], v: Service, at: usize, own: usize) -> bool
+    ensures { λ r. ⌜ r ≡ firstHolds (valueIn v own (now (m .entry)) 1 2) (valueIn v at (now (m .entry))) ⌝ }
+{
+    let code = values::code_in(m, at, v, 1, 0);
+    let same = same_in(m, v, at, 1, 1, own, 2);
+    truth::both(code == 0x0132, same)
+}
+
+// Whether it names another currency then.
+fn names_other(m: &[u8], v: Service, at: usize, own: usize) -> bool
+    ensures { λ r. ⌜ r ≡ secondHolds (valueIn v own (now (m .entry)) 1 2) (valueIn v at (now (m .entry))) ⌝ }
+{
+    let code = values::code_in(m, at, v, 2, 0);
+    let money = values::is_capitals(values::code_in(m, at, v, 2, 1));
+    let same = same_in(m, v, at, 2, 1, own, 2);
+    let other = truth::isnt(same);
+    let third = truth::both(code == 0x0133, money);
+    truth::both(third, other)
+}
+
+// Whether the CUX at `at` holds for the order whose MOA stands at `own`.
+fn cux_holds(m: &[u8], v: Service, at: usize, own: usize) -> bool
+    ensures { λ r. ⌜ r ≡ cuxHolds (valueIn v own (now (m .entry)) 1 2) (valueIn v at (now (m .entry))) ⌝ }
+{
+    let first = names_own(m, v, at, own);
+    let second = names_other(m, v, at, own);
+    let a = values::code_in(m, at, v, 1, 3);
+    let b = values::code_in(m, at, v, 2, 3);
+    let rate = values::code_in(m, at, v, 3, 0);
+    let bases = bases_hold(a, b, rate);
+    let named = truth::both(first, second);
+    truth::both(named, bases)
+}
+
+// Whether the CUX at `at` may stand in the order, and holds.
+fn exchange_holds(m: &[u8], v: Service, at: usize, own: usize) -> bool
+    ensures { λ r. ⌜ r ≡ says (valueIn v own (now (m .entry)) 1 0) "57" && cuxHolds (valueIn v own (now (m .entry)) 1 2) (valueIn v at (now (m .entry))) ⌝ }
+{
+    let may = is_exchange(m, v, own);
+    let right = cux_holds(m, v, at, own);
+    truth::both(may, right)
+}
+
+// Whether an order that needs a CUX had one.
+fn exchange_came(m: &[u8], v: Service, own: usize, exchanged: bool) -> bool
+    ensures { λ r. ⌜ r ≡ not (says (valueIn v own (now (m .entry)) 1 0) "57") || exchanged ⌝ }
+{
+    let none = truth::isnt(is_exchange(m, v, own));
+    truth::either(none, exchanged)
+}
+
+// The sum with one amount more. No amount reaches the end of the range, so a sum may stop there.
+fn add(sum: u64, amount: u64) -> u64
+    ensures { λ r. ⌜ r ≡ min (sum + amount) most ⌝ }
+{
     if amount <= 18446744073709551615 - sum {
         return sum + amount;
     }
     18446744073709551615
 }
 
-// A payment's MOA: its qualifier and currency are those of its order.
-fn payment_moa(st: Amounts, m: &[u8], v: Service, at: usize) -> Amounts {
-    let moa = read_moa(m, v, at);
-    let order = st.order;
-    let own = order.moa;
-    let place = order.at;
-    let f = st.bad_form;
-    let q = st.bad_qualifier;
-    let c = st.bad_currency;
-    let bad_form = faults::keep(f, moa.formed, at);
-    let bad_qualifier = faults::keep(q, moa.qualifier == own.qualifier, at);
-    let bad_currency = faults::keep(c, moa.currency == own.currency, at);
-    let bad_exchange = st.bad_exchange;
-    let bad_total = st.bad_total;
+// The end of an order, and the next one.
+fn next_order(st: Amounts, m: &[u8], v: Service, order: Order) -> Amounts
+    ensures { λ r. ⌜ r ≡ orderEnded v (now (m .entry)) st order ⌝ }
+{
+    let o = st.order;
+    let first22 = st.first22;
+    let f23 = st.first23;
+    let f24 = st.first24;
+    let f25 = st.first25;
+    let f26 = st.first26;
+    if o.live {
+        let first23 = faults::keep(f23, has_qualifier(m, v, o.at), o.nth);
+        let first24 = faults::keep(f24, has_currency(m, v, o.at), o.nth);
+        let first25 = faults::keep(f25, exchange_came(m, v, o.at, o.exchanged), o.nth);
+        let first26 = faults::keep(f26, worth_at(m, v, o.at) == o.sum, o.nth);
+        return Amounts {
+            order,
+            first22,
+            first23,
+            first24,
+            first25,
+            first26,
+        };
+    }
     Amounts {
-        order: Order {
-            at: place,
-            moa: own,
-            exchanged: order.exchanged,
-            sum: add(order.sum, moa.amount),
-        },
-        bad_form,
-        bad_qualifier,
-        bad_currency,
-        bad_exchange,
-        bad_total,
+        order,
+        first22,
+        first23: f23,
+        first24: f24,
+        first25: f25,
+        first26: f26,
     }
 }
 
-// A rate base is 1, 100 or 1000.
-fn is_base(code: u64) -> bool {
-    if code == 0x0131 {
-        return true;
-    }
-    if code == 0x0131_3030 {
-        return true;
-    }
-    code == 0x0001_3130_3030
+// The first places, with the order at hand ended.
+pub fn close(st: Amounts, m: &[u8], v: Service) -> Amounts
+    ensures { λ r. ⌜ sumsOf v (now (m .entry)) r ≡ sumsClose v (now (m .entry)) (sumsOf v (now (m .entry)) st) ⌝ }
+{
+    next_order(st, m, v, no_order())
 }
 
-// At most one of the two bases is given, and only with a rate.
-fn bases_hold(a: u64, b: u64, rate: u64) -> bool {
-    if a == EMPTY {
-        if b == EMPTY {
-            return true;
-        }
-        if is_base(b) {
-            return rate != EMPTY;
-        }
-        return false;
+// The form of the amount of the MOA at `at`, the nth segment.
+fn formed(st: Amounts, m: &[u8], v: Service, at: usize, nth: usize) -> Amounts
+    ensures { λ r. ⌜ r ≡ withForm st (isOf (amountOf (valueIn v at (now (m .entry)) 1 1))) nth ⌝ }
+{
+    let order = st.order;
+    let f22 = st.first22;
+    let first23 = st.first23;
+    let first24 = st.first24;
+    let first25 = st.first25;
+    let first26 = st.first26;
+    let first22 = faults::keep(f22, is_formed(m, v, at), nth);
+    Amounts {
+        order,
+        first22,
+        first23,
+        first24,
+        first25,
+        first26,
     }
-    if b == EMPTY {
-        if is_base(a) {
-            return rate != EMPTY;
-        }
-    }
-    false
 }
 
-// Whether a code is that of three capitals other than the order's currency.
-fn is_other(code: u64, currency: u64) -> bool {
-    if code == currency {
-        return false;
-    }
-    values::is_capitals(code)
-}
-
-// Whether the CUX at `at` names the order's currency first, and then another.
-fn currencies_hold(m: &[u8], v: Service, at: usize, currency: u64) -> bool {
-    if values::code_in(m, at, v, 1, 0) == 0x0132 {
-        if values::code_in(m, at, v, 1, 1) == currency {
-            if values::code_in(m, at, v, 2, 0) == 0x0133 {
-                return is_other(values::code_in(m, at, v, 2, 1), currency);
-            }
-        }
-    }
-    false
-}
-
-// Whether the CUX at `at` may stand in the order, and is right.
-fn exchange_holds(m: &[u8], v: Service, at: usize, own: Moa) -> bool {
-    if own.qualifier == FIFTY_SEVEN {
-        if currencies_hold(m, v, at, own.currency) {
-            let a = values::code_in(m, at, v, 1, 3);
-            let b = values::code_in(m, at, v, 2, 3);
-            let rate = values::code_in(m, at, v, 3, 0);
-            return bases_hold(a, b, rate);
-        }
-    }
-    false
+// An order's own MOA.
+fn order_moa(st: Amounts, m: &[u8], v: Service, at: usize, nth: usize) -> Amounts
+    ensures { λ r. ⌜ r ≡ orderEnded v (now (m .entry)) (withForm st (isOf (amountOf (valueIn v at (now (m .entry)) 1 1))) nth) (orderOf true nth at false 0) ⌝ }
+{
+    let u = formed(st, m, v, at, nth);
+    let order = Order {
+        live: true,
+        nth,
+        at,
+        exchanged: false,
+        sum: 0,
+    };
+    next_order(u, m, v, order)
 }
 
 // An order's CUX.
-fn exchange(st: Amounts, m: &[u8], v: Service, at: usize) -> Amounts {
-    let order = st.order;
-    let own = order.moa;
-    let place = order.at;
-    let e = st.bad_exchange;
-    let bad_exchange = faults::keep(e, exchange_holds(m, v, at, own), at);
-    let bad_form = st.bad_form;
-    let bad_qualifier = st.bad_qualifier;
-    let bad_currency = st.bad_currency;
-    let bad_total = st.bad_total;
+fn exchange(st: Amounts, m: &[u8], v: Service, at: usize, nth: usize) -> Amounts
+    ensures { λ r. ⌜ r ≡ exchanged v (now (m .entry)) st at nth ⌝ }
+{
+    let o = st.order;
+    let first22 = st.first22;
+    let first23 = st.first23;
+    let first24 = st.first24;
+    let f25 = st.first25;
+    let first26 = st.first26;
+    let idle = truth::isnt(o.live);
+    let holds = truth::either(idle, exchange_holds(m, v, at, o.at));
+    let first25 = faults::keep(f25, holds, nth);
     Amounts {
         order: Order {
-            at: place,
-            moa: own,
+            live: o.live,
+            nth: o.nth,
+            at: o.at,
             exchanged: true,
-            sum: order.sum,
+            sum: o.sum,
         },
-        bad_form,
-        bad_qualifier,
-        bad_currency,
-        bad_exchange,
-        bad_total,
+        first22,
+        first23,
+        first24,
+        first25,
+        first26,
     }
 }
 
-// Whether an order that needs a CUX had one.
-fn has_exchange(order: Order) -> bool {
-    let own = order.moa;
-    if own.qualifier == FIFTY_SEVEN {
-        return order.exchanged;
+// The sum, qualifier and currency of a payment's MOA.
+fn added(st: Amounts, m: &[u8], v: Service, at: usize, nth: usize) -> Amounts
+    ensures { λ r. ⌜ r ≡ paid v (now (m .entry)) st at nth ⌝ }
+{
+    let o = st.order;
+    let first22 = st.first22;
+    let f23 = st.first23;
+    let f24 = st.first24;
+    let first25 = st.first25;
+    let first26 = st.first26;
+    let idle = truth::isnt(o.live);
+    let sum = add(o.sum, worth_at(m, v, at));
+    let first23 = faults::keep(
+        f23,
+        truth::either(idle, same_in(m, v, at, 1, 0, o.at, 0)),
+        nth,
+    );
+    let first24 = faults::keep(
+        f24,
+        truth::either(idle, same_in(m, v, at, 1, 2, o.at, 2)),
+        nth,
+    );
+    Amounts {
+        order: Order {
+            live: o.live,
+            nth: o.nth,
+            at: o.at,
+            exchanged: o.exchanged,
+            sum,
+        },
+        first22,
+        first23,
+        first24,
+        first25,
+        first26,
     }
-    true
 }
 
-// The end of an order: it had a CUX if it needs one, and its amount is the sum of its payments.
-pub fn close(st: Amounts) -> Amounts {
-    let order = st.order;
-    let place = order.at;
-    match place {
-        First::None => st,
-        First::At(at) => {
-            let own = order.moa;
-            let e = st.bad_exchange;
-            let t = st.bad_total;
-            let bad_exchange = faults::keep(e, has_exchange(order), at);
-            let bad_total = faults::keep(t, own.amount == order.sum, at);
-            let bad_form = st.bad_form;
-            let bad_qualifier = st.bad_qualifier;
-            let bad_currency = st.bad_currency;
-            Amounts {
-                order: new_order(),
-                bad_form,
-                bad_qualifier,
-                bad_currency,
-                bad_exchange,
-                bad_total,
-            }
-        }
-    }
+// A payment's MOA.
+fn payment_moa(st: Amounts, m: &[u8], v: Service, at: usize, nth: usize) -> Amounts
+    ensures { λ r. ⌜ r ≡ paid v (now (m .entry)) (withForm st (isOf (amountOf (valueIn v at (now (m .entry)) 1 1))) nth) at nth ⌝ }
+{
+    let u = formed(st, m, v, at, nth);
+    added(u, m, v, at, nth)
 }
 
-// One segment.
-pub fn step(st: Amounts, m: &[u8], v: Service, at: usize, row: usize) -> Amounts {
+// One segment, the nth.
+pub fn step(st: Amounts, m: &[u8], v: Service, at: usize, nth: usize, row: usize) -> Amounts
+    ensures { λ r. ⌜ sumsOf v (now (m .entry)) r ≡ sumsStep (segAt v (now (m .entry)) 0 23 0) (sumsOf v (now (m .entry)) st) (segAt v (now (m .entry)) nth row at) ⌝ }
+{
     if row == chart::LIN {
-        return close(st);
+        return next_order(st, m, v, no_order());
     }
     if row == chart::ORDER_MOA {
-        return order_moa(st, m, v, at);
+        return order_moa(st, m, v, at, nth);
     }
     if row == chart::ORDER_CUX {
-        return exchange(st, m, v, at);
+        return exchange(st, m, v, at, nth);
     }
     if row == chart::PAYMENT_MOA {
-        return payment_moa(st, m, v, at);
+        return payment_moa(st, m, v, at, nth);
     }
     st
 }

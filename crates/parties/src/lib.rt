@@ -1,29 +1,40 @@
 // The parties of an order (level B) and of a payment (level C): rule 27.
+ghost use mathlib.Core.Path.{_≡_};
+ghost use mathlib.Core.Bool.{true, false, _&&_};
+ghost use Rattle.segments.specs.Classes.{if};
+ghost use Rattle.faults.specs.Firsts.{lesser};
+ghost use Rattle.values.specs.Values.{valueIn};
+ghost use Rattle.message.specs.Segs.{segAt};
+ghost use Rattle.message.specs.Rules.{alike as alikeOf, orderHolds, paymentHolds};
+ghost use Rattle.message.specs.CountLaws.{moreIf};
+ghost use Rattle.parties.specs.Steps.{nameIn, bfHolds, levelB, levelC, orderFii, orderNad, paymentFii, paymentNad, orderComes, paymentComes, partiesStart, partiesStep, partiesClose, withOrder, withPayment, ended};
 use faults::First;
 use service::Service;
 
-// An order: where its LIN stands, how many FII+OR, NAD+PL and NAD+OY it has (two stands for more), and whether the OR has a name.
+// An order: its LIN, how many FII+OR, NAD+PL and NAD+OY it has (two stands for more), and whether an OR has a name.
 pub struct LevelB {
-    pub at: First,
+    pub lin: First,
     pub or: u8,
     pub named: bool,
     pub pl: u8,
     pub oy: u8,
 }
 
-// A payment: where its SEQ stands, how many FII+BF, NAD+PE and NAD+BE it has (two stands for more), and whether the BF has a name.
+// A payment: its SEQ, how many FII+BF, NAD+PE and NAD+BE it has (two stands for more), and whether a BF has a name.
 pub struct LevelC {
-    pub at: First,
+    pub seq: First,
     pub bf: u8,
     pub named: bool,
     pub pe: u8,
     pub be: u8,
 }
 
+// The order and the payment at hand, and the first of each that did not hold.
 pub struct Parties {
     pub order: LevelB,
+    pub orders: First,
     pub payment: LevelC,
-    pub bad: First,
+    pub payments: First,
 }
 
 const OR: u64 = 0x0001_4f52;
@@ -40,9 +51,11 @@ const BE: u64 = 0x0001_4245;
 
 const EMPTY: u64 = 1;
 
-fn new_order(at: First) -> LevelB {
+fn new_order(lin: First) -> LevelB
+    ensures { λ r. ⌜ r ≡ levelB lin 0 false 0 0 ⌝ }
+{
     LevelB {
-        at,
+        lin,
         or: 0,
         named: false,
         pl: 0,
@@ -50,9 +63,11 @@ fn new_order(at: First) -> LevelB {
     }
 }
 
-fn new_payment(at: First) -> LevelC {
+fn new_payment(seq: First) -> LevelC
+    ensures { λ r. ⌜ r ≡ levelC seq 0 false 0 0 ⌝ }
+{
     LevelC {
-        at,
+        seq,
         bf: 0,
         named: false,
         pe: 0,
@@ -60,200 +75,286 @@ fn new_payment(at: First) -> LevelC {
     }
 }
 
-pub fn start() -> Parties {
+pub fn start() -> Parties
+    ensures { λ r. ⌜ r ≡ partiesStart ⌝ }
+{
     Parties {
         order: new_order(First::None),
+        orders: First::None,
         payment: new_payment(First::None),
-        bad: First::None,
+        payments: First::None,
     }
 }
 
 // None, one, or more.
-fn more(n: u8) -> u8 {
-    if n < 2 { n + 1 } else { 2 }
+fn more_if(t: bool, n: u8) -> u8
+    ensures { λ r. ⌜ r ≡ moreIf t n ⌝ }
+{
+    if t {
+        if n < 2 {
+            return n + 1;
+        }
+        return 2;
+    }
+    n
 }
 
 // Whether the FII at `at` gives a holder name.
-fn has_name(m: &[u8], v: Service, at: usize) -> bool {
+fn has_name(m: &[u8], v: Service, at: usize) -> bool
+    ensures { λ r. ⌜ r ≡ nameIn (valueIn v at (now (m .entry))) ⌝ }
+{
     if values::code_in(m, at, v, 2, 1) == EMPTY {
         return values::code_in(m, at, v, 2, 2) != EMPTY;
     }
     true
 }
 
-fn is_empty_or_not(named: bool, other: u8) -> bool {
-    if named { other == 0 } else { other != 0 }
+// Whether a name was given before, or is by the FII at `at`, if that is the one.
+fn name_if(before: bool, t: bool, m: &[u8], v: Service, at: usize) -> bool
+    ensures { λ r. ⌜ r ≡ if (t && nameIn (valueIn v at (now (m .entry)))) true before ⌝ }
+{
+    if before {
+        return true;
+    }
+    if t {
+        return has_name(m, v, at);
+    }
+    false
+}
+
+fn alike(a: bool, b: bool) -> bool
+    ensures { λ r. ⌜ r ≡ alikeOf a b ⌝ }
+{
+    if a {
+        return b;
+    }
+    if b { false } else { true }
 }
 
 // Level B: exactly one OR, at most one PL and one OY, and a name exactly if there is no PL.
-fn order_holds(o: LevelB) -> bool {
-    if o.or == 1 {
-        if o.pl < 2 {
-            if o.oy < 2 {
-                return is_empty_or_not(o.named, o.pl);
-            }
-        }
-    }
-    false
+fn order_holds(o: LevelB) -> bool
+    ensures { λ r. ⌜ r ≡ orderHolds (o .or) (o .named) (o .pl) (o .oy) ⌝ }
+{
+    let one = truth::both(o.or == 1, o.pl <= 1);
+    let few = truth::both(one, o.oy <= 1);
+    let name = alike(o.named, o.pl == 0);
+    truth::both(few, name)
 }
 
-// Level C: at most one each of BF, PE and BE. Without BF, BE and no PE; with BF, a name exactly if there is no PE.
-fn payment_holds(p: LevelC) -> bool {
-    if p.pe < 2 {
-        if p.be < 2 {
-            if p.bf == 0 {
-                return payee_alone(p);
-            }
-            if p.bf == 1 {
-                return is_empty_or_not(p.named, p.pe);
-            }
-        }
+// Without BF, BE and no PE; with BF, a name exactly if there is no PE.
+fn bf_holds(p: LevelC) -> bool
+    ensures { λ r. ⌜ r ≡ bfHolds (p .bf) (p .named) (p .pe) (p .be) ⌝ }
+{
+    if p.bf == 0 {
+        return truth::both(p.be == 1, p.pe == 0);
     }
-    false
+    alike(p.named, p.pe == 0)
 }
 
-fn payee_alone(p: LevelC) -> bool {
-    if p.be == 1 {
-        return p.pe == 0;
-    }
-    false
+// Level C: at most one each of BF, PE and BE, and what goes with BF.
+fn payment_holds(p: LevelC) -> bool
+    ensures { λ r. ⌜ r ≡ paymentHolds (p .bf) (p .named) (p .pe) (p .be) ⌝ }
+{
+    let one = truth::both(p.bf <= 1, p.pe <= 1);
+    let few = truth::both(one, p.be <= 1);
+    let with = bf_holds(p);
+    truth::both(few, with)
 }
 
-// The place of an order whose parties do not hold.
-fn order_fault(o: LevelB) -> First {
-    let place = o.at;
+// The LIN of an order whose parties do not hold.
+fn order_fault(o: LevelB) -> First
+    ensures { λ r. ⌜ r ≡ orderComes o ⌝ }
+{
+    let place = o.lin;
     match place {
         First::None => First::None,
-        First::At(at) => faults::unless(order_holds(o), at),
+        First::At(nth) => faults::unless(order_holds(o), nth),
     }
 }
 
-// The place of a payment whose parties do not hold.
-fn payment_fault(p: LevelC) -> First {
-    let place = p.at;
+// The SEQ of a payment whose parties do not hold.
+fn payment_fault(p: LevelC) -> First
+    ensures { λ r. ⌜ r ≡ paymentComes p ⌝ }
+{
+    let place = p.seq;
     match place {
         First::None => First::None,
-        First::At(at) => faults::unless(payment_holds(p), at),
+        First::At(nth) => faults::unless(payment_holds(p), nth),
     }
 }
 
-// The end of a payment, and the next one at `at`.
-fn next_payment(st: Parties, at: First) -> Parties {
+// The end of a payment, and the next one.
+fn next_payment(st: Parties, seq: First) -> Parties
+    ensures { λ r. ⌜ r ≡ withPayment st (levelC seq 0 false 0 0) (lesser (st .payments) (paymentComes (st .payment))) ⌝ }
+{
     let p = st.payment;
     let order = st.order;
-    let bad = st.bad;
-    let now = faults::earlier(bad, payment_fault(p));
+    let orders = st.orders;
+    let before = st.payments;
+    let payments = faults::earlier(before, payment_fault(p));
     Parties {
         order,
-        payment: new_payment(at),
-        bad: now,
+        orders,
+        payment: new_payment(seq),
+        payments,
     }
 }
 
-// The end of an order and of its last payment, and the next order at `at`.
-fn next_order(st: Parties, at: First) -> Parties {
+// The end of an order and of its last payment, and the next order.
+fn next_order(st: Parties, lin: First) -> Parties
+    ensures { λ r. ⌜ r ≡ ended st lin ⌝ }
+{
     let u = next_payment(st, First::None);
     let o = u.order;
     let payment = u.payment;
-    let bad = u.bad;
-    let now = faults::earlier(bad, order_fault(o));
+    let payments = u.payments;
+    let before = u.orders;
+    let orders = faults::earlier(before, order_fault(o));
     Parties {
-        order: new_order(at),
+        order: new_order(lin),
+        orders,
         payment,
-        bad: now,
+        payments,
     }
 }
 
-pub fn close(st: Parties) -> First {
+// The first LIN or SEQ whose parties do not hold, with the order and the payment at hand ended.
+pub fn close(st: Parties) -> First
+    ensures { λ r. ⌜ r ≡ partiesClose st ⌝ }
+{
     let u = next_order(st, First::None);
-    u.bad
+    let orders = u.orders;
+    let payments = u.payments;
+    faults::earlier(orders, payments)
 }
 
 // An FII of an order.
-fn order_fii(o: LevelB, m: &[u8], v: Service, at: usize) -> LevelB {
-    if values::code_in(m, at, v, 1, 0) == OR {
-        let place = o.at;
-        return LevelB {
-            at: place,
-            or: more(o.or),
-            named: has_name(m, v, at),
-            pl: o.pl,
-            oy: o.oy,
-        };
+fn order_fii(o: LevelB, m: &[u8], v: Service, at: usize) -> LevelB
+    ensures { λ r. ⌜ r ≡ orderFii o (valueIn v at (now (m .entry))) ⌝ }
+{
+    let lin = o.lin;
+    let code = values::code_in(m, at, v, 1, 0);
+    let or = more_if(code == OR, o.or);
+    let named = name_if(o.named, code == OR, m, v, at);
+    LevelB {
+        lin,
+        or,
+        named,
+        pl: o.pl,
+        oy: o.oy,
     }
-    o
 }
 
 // A NAD of an order.
-fn order_nad(o: LevelB, code: u64) -> LevelB {
-    let mut u = o;
-    if code == PL {
-        u.pl = more(o.pl);
+fn order_nad(o: LevelB, m: &[u8], v: Service, at: usize) -> LevelB
+    ensures { λ r. ⌜ r ≡ orderNad o (valueIn v at (now (m .entry))) ⌝ }
+{
+    let lin = o.lin;
+    let code = values::code_in(m, at, v, 1, 0);
+    let pl = more_if(code == PL, o.pl);
+    let oy = more_if(code == OY, o.oy);
+    LevelB {
+        lin,
+        or: o.or,
+        named: o.named,
+        pl,
+        oy,
     }
-    if code == OY {
-        u.oy = more(o.oy);
-    }
-    u
 }
 
 // An FII of a payment.
-fn payment_fii(p: LevelC, m: &[u8], v: Service, at: usize) -> LevelC {
-    if values::code_in(m, at, v, 1, 0) == BF {
-        let place = p.at;
-        return LevelC {
-            at: place,
-            bf: more(p.bf),
-            named: has_name(m, v, at),
-            pe: p.pe,
-            be: p.be,
-        };
+fn payment_fii(p: LevelC, m: &[u8], v: Service, at: usize) -> LevelC
+    ensures { λ r. ⌜ r ≡ paymentFii p (valueIn v at (now (m .entry))) ⌝ }
+{
+    let seq = p.seq;
+    let code = values::code_in(m, at, v, 1, 0);
+    let bf = more_if(code == BF, p.bf);
+    let named = name_if(p.named, code == BF, m, v, at);
+    LevelC {
+        seq,
+        bf,
+        named,
+        pe: p.pe,
+        be: p.be,
     }
-    p
 }
 
 // A NAD of a payment.
-fn payment_nad(p: LevelC, code: u64) -> LevelC {
-    let mut u = p;
-    if code == PE {
-        u.pe = more(p.pe);
+fn payment_nad(p: LevelC, m: &[u8], v: Service, at: usize) -> LevelC
+    ensures { λ r. ⌜ r ≡ paymentNad p (valueIn v at (now (m .entry))) ⌝ }
+{
+    let seq = p.seq;
+    let code = values::code_in(m, at, v, 1, 0);
+    let pe = more_if(code == PE, p.pe);
+    let be = more_if(code == BE, p.be);
+    LevelC {
+        seq,
+        bf: p.bf,
+        named: p.named,
+        pe,
+        be,
     }
-    if code == BE {
-        u.be = more(p.be);
-    }
-    u
 }
 
-// One segment inside an order or a payment.
-fn inside(st: Parties, m: &[u8], v: Service, at: usize, row: usize) -> Parties {
-    let mut order = st.order;
-    let mut payment = st.payment;
-    let bad = st.bad;
-    if row == chart::ORDER_FII {
-        order = order_fii(order, m, v, at);
-    }
-    if row == chart::ORDER_NAD {
-        order = order_nad(order, values::code_in(m, at, v, 1, 0));
-    }
-    if row == chart::PAYMENT_FII {
-        payment = payment_fii(payment, m, v, at);
-    }
-    if row == chart::PAYMENT_NAD {
-        payment = payment_nad(payment, values::code_in(m, at, v, 1, 0));
-    }
+fn with_order(st: Parties, order: LevelB) -> Parties
+    ensures { λ r. ⌜ r ≡ withOrder st order ⌝ }
+{
+    let orders = st.orders;
+    let payment = st.payment;
+    let payments = st.payments;
     Parties {
         order,
+        orders,
         payment,
-        bad,
+        payments,
     }
 }
 
-// One segment.
-pub fn step(st: Parties, m: &[u8], v: Service, at: usize, row: usize) -> Parties {
+fn with_payment(st: Parties, payment: LevelC) -> Parties
+    ensures { λ r. ⌜ r ≡ withPayment st payment (st .payments) ⌝ }
+{
+    let order = st.order;
+    let orders = st.orders;
+    let payments = st.payments;
+    Parties {
+        order,
+        orders,
+        payment,
+        payments,
+    }
+}
+
+// One segment, the nth, inside an order or a payment.
+fn inside(st: Parties, m: &[u8], v: Service, at: usize, nth: usize, row: usize) -> Parties
+    requires { ⌜ (row ≡ 17 → ⊥) × (row ≡ 50 → ⊥) ⌝ }
+    ensures { λ r. ⌜ r ≡ partiesStep st (segAt v (now (m .entry)) nth row at) ⌝ }
+{
+    let o = st.order;
+    let p = st.payment;
+    if row == chart::ORDER_FII {
+        return with_order(st, order_fii(o, m, v, at));
+    }
+    if row == chart::ORDER_NAD {
+        return with_order(st, order_nad(o, m, v, at));
+    }
+    if row == chart::PAYMENT_FII {
+        return with_payment(st, payment_fii(p, m, v, at));
+    }
+    if row == chart::PAYMENT_NAD {
+        return with_payment(st, payment_nad(p, m, v, at));
+    }
+    st
+}
+
+// One segment, the nth.
+pub fn step(st: Parties, m: &[u8], v: Service, at: usize, nth: usize, row: usize) -> Parties
+    ensures { λ r. ⌜ r ≡ partiesStep st (segAt v (now (m .entry)) nth row at) ⌝ }
+{
     if row == chart::LIN {
-        return next_order(st, First::At(at));
+        return next_order(st, First::At(nth));
     }
     if row == chart::SEQ {
-        return next_payment(st, First::At(at));
+        return next_payment(st, First::At(nth));
     }
-    inside(st, m, v, at, row)
+    inside(st, m, v, at, nth, row)
 }

@@ -1,5 +1,11 @@
 // One message judged: refused with the lowest number that applies and its first place, or accepted with its lists written.
-ghost use Rattle.report.specs.Lists.{Lists};
+ghost use mathlib.Core.Path.{_≡_};
+ghost use Prim.Native.Nat.{_+_, _%_};
+ghost use mathlib.Core.Bool.{_&&_};
+ghost use lib.Dec.{leb};
+ghost use Rattle.report.specs.Reported.{headed, Reported};
+ghost use Rattle.report.specs.UntLaws.{closedAt};
+ghost use Rattle.report.specs.Checks.{typed, earlyFault, Late, byteRefusal, startBy, refusalAt};
 use chart::Placed;
 use faults::Fault;
 use faults::First;
@@ -20,7 +26,9 @@ pub enum Report {
 }
 
 // Whether the first UNT is there and ends the bytes.
-fn is_closed(m: &[u8], v: Service, unt: First) -> bool {
+fn is_closed(m: &[u8], v: Service, unt: First) -> bool
+    ensures { λ r. ⌜ r ≡ closedAt v (now (m .entry)) unt ⌝ }
+{
     match unt {
         First::None => false,
         First::At(at) => {
@@ -34,101 +42,104 @@ fn is_closed(m: &[u8], v: Service, unt: First) -> bool {
     }
 }
 
-// Whether the UNH's type is PAYMUL, D, 96A, UN.
-fn is_paymul(m: &[u8], v: Service) -> bool {
-    if values::code_in(m, 0, v, 2, 0) == 0x0150_4159_4d55_4c {
-        if values::code_in(m, 0, v, 2, 1) == 0x0144 {
-            if values::code_in(m, 0, v, 2, 2) == 0x0139_3641 {
-                return values::code_in(m, 0, v, 2, 3) == 0x0001_554e;
-            }
-        }
-    }
-    false
+// Whether the UNH's type is PAYMUL, D, 96A, UN, if it is a UNH with a reference.
+fn is_paymul(m: &[u8], v: Service, unh: bool) -> bool
+    ensures { λ r. ⌜ r ≡ typed v (now (m .entry)) unh ⌝ }
+{
+    let name = values::code_in(m, 0, v, 2, 0);
+    let version = values::code_in(m, 0, v, 2, 1);
+    let release = values::code_in(m, 0, v, 2, 2);
+    let agency = values::code_in(m, 0, v, 2, 3);
+    let a = truth::both(unh, name == 0x0150_4159_4d55_4c);
+    let b = truth::both(a, version == 0x0144);
+    let c = truth::both(b, release == 0x0139_3641);
+    truth::both(c, agency == 0x0001_554e)
 }
 
 // Whether the first segment is a UNH with a reference of 1 to 14 bytes and the type.
-fn has_header(m: &[u8], v: Service) -> bool {
-    if values::code_at(m, 0, v) == interchange::UNH {
-        let p = parts::component(m, 0, v, 1, 0);
-        let n = values::value_len(m, p, v);
-        if interchange::is_reference(n) {
-            return is_paymul(m, v);
-        }
-    }
-    false
+fn has_header(m: &[u8], v: Service) -> bool
+    ensures { λ r. ⌜ r ≡ headed v (now (m .entry)) ⌝ }
+{
+    let tag = values::code_at(m, 0, v);
+    let p = parts::component(m, 0, v, 1, 0);
+    let n = values::value_len(m, p, v);
+    let unh = truth::both(tag == interchange::UNH, interchange::is_reference(n));
+    is_paymul(m, v, unh)
 }
 
-// The faults that come before the lists: 10 to 13.
-fn early_fault(m: &[u8], v: Service, t: Tally) -> Fault {
-    let bad = t.bad;
-    if let First::At(at) = bad {
-        return Fault::At(10, at);
-    }
+// The faults that come before the lists, by number and segment: 11 to 13.
+fn early_fault(m: &[u8], v: Service, t: Tally) -> Fault
+    ensures { λ r. ⌜ r ≡ earlyFault (closedAt v (now (m .entry)) (t .unt)) (headed v (now (m .entry))) (t .segments) ⌝ }
+{
     let unt = t.unt;
     if is_closed(m, v, unt) {
         if has_header(m, v) {
             if 9999 < t.segments {
-                return Fault::At(13, tally::segment_start(m, v, 9999));
+                return Fault::At(13, 10000);
             }
             return Fault::None;
         }
-        return Fault::At(12, 0);
+        return Fault::At(12, 1);
     }
-    Fault::At(11, 0)
-}
-
-// The trailer at `unt`: 17 and 18.
-fn trailer_fault(m: &[u8], v: Service, unt: usize, segments: usize) -> Fault {
-    if values::number_is(m, unt, v, 1, 0, segments as u64) {
-        let p = parts::component(m, 0, v, 1, 0);
-        let q = parts::component(m, unt, v, 2, 0);
-        if values::same_value(m, p, q, v) {
-            return Fault::None;
-        }
-        return Fault::At(18, unt);
-    }
-    Fault::At(17, unt)
-}
-
-// The faults that come after the lists: 16 to 29.
-fn late_fault(m: &[u8], v: Service, t: Tally) -> Fault {
-    let w = chart::place(m, v);
-    if let Placed::Stuck(at) = w {
-        return Fault::At(16, at);
-    }
-    let place = t.unt;
-    let First::At(unt) = place else {
-        return Fault::At(11, 0);
-    };
-    let f = trailer_fault(m, v, unt, t.segments);
-    match f {
-        Fault::None => rules::judge(m, v, t.orders as u64),
-        Fault::At(_, _) => f,
-    }
+    Fault::At(11, 1)
 }
 
 // The place of a segment with `n` before it, counted from 1.
-fn ordinal(n: usize) -> u32 {
-    (n % 4294967295 + 1) as u32
+fn ordinal(n: usize) -> usize
+    ensures { λ r. ⌜ r ≡ n % 4294967295 + 1 ⌝ }
+{
+    n % 4294967295 + 1
 }
 
-// The refusal with a number, for the segment that holds the byte at `at`.
-fn refusal_at(m: &[u8], v: Service, number: u32, at: usize) -> Refusal {
+// The faults that come after the lists, by number and segment: 16 to 29.
+fn late_fault(m: &[u8], v: Service, t: Tally) -> Fault
+    ensures { λ r. ⌜ Late v (now (m .entry)) (t .segments) (t .orders) r ⌝ }
+{
+    let w = chart::place(m, v);
+    match w {
+        Placed::Whole => rules::judge(m, v, t.segments as u64, t.orders as u64),
+        Placed::Stuck(at) => Fault::At(16, ordinal(tally::segments_before(m, v, at))),
+    }
+}
+
+// The refusal under 10, for the byte at `at`.
+fn refusal_of_byte(m: &[u8], v: Service, at: usize) -> Refusal
+    ensures { λ r. ⌜ r ≡ byteRefusal v (now (m .entry)) at ⌝ }
+{
     Refusal {
-        number,
-        segment: ordinal(tally::segments_before(m, v, at)),
+        number: 10,
+        segment: lent::low32(ordinal(tally::segments_before(m, v, at))),
         offset: lent::low32(at),
     }
 }
 
-// Whether the lists are long enough.
-fn fits(t: Tally, rows: usize, starts: usize, totals: usize) -> bool {
-    if t.segments <= rows {
-        if t.segments <= starts {
-            return t.orders <= totals;
-        }
+// Where a segment begins, by its place counted from 1.
+fn start_of(m: &[u8], v: Service, segment: usize) -> usize
+    ensures { λ r. ⌜ r ≡ startBy v (now (m .entry)) segment ⌝ }
+{
+    if segment == 0 {
+        return 0;
     }
-    false
+    tally::segment_start(m, v, segment - 1)
+}
+
+// The refusal with a number, for a segment.
+fn refusal_at(m: &[u8], v: Service, number: u32, segment: usize) -> Refusal
+    ensures { λ r. ⌜ r ≡ refusalAt v (now (m .entry)) number segment ⌝ }
+{
+    Refusal {
+        number,
+        segment: lent::low32(segment),
+        offset: lent::low32(start_of(m, v, segment)),
+    }
+}
+
+// Whether the lists are long enough.
+fn fits(t: Tally, rows: usize, starts: usize, totals: usize) -> bool
+    ensures { λ r. ⌜ r ≡ leb (t .segments) rows && leb (t .segments) starts && leb (t .orders) totals ⌝ }
+{
+    let segments = truth::both(t.segments <= rows, t.segments <= starts);
+    truth::both(segments, t.orders <= totals)
 }
 
 // The report of a message's bytes, which begin with its UNH.
@@ -139,20 +150,24 @@ pub fn check(
     starts: &mut [u32],
     totals: &mut [u64],
 ) -> Report
-    ensures { λ r. ⌜ Lists r (now (rows .entry)) (now (rows .exit)) (now (starts .entry)) (now (starts .exit)) (now (totals .entry)) (now (totals .exit)) ⌝ }
+    ensures { λ r. ⌜ Reported v (now (m .entry)) (now (rows .entry)) (now (rows .exit)) (now (starts .entry)) (now (starts .exit)) (now (totals .entry)) (now (totals .exit)) r ⌝ }
 {
     if interchange::MOST < m.len() {
         return Report::Refused(interchange::refuse(1));
     }
     let t = tally::tally_of(m, v);
+    let bad = t.bad;
+    if let First::At(at) = bad {
+        return Report::Refused(refusal_of_byte(m, v, at));
+    }
     let early = early_fault(m, v, t);
-    if let Fault::At(number, at) = early {
-        return Report::Refused(refusal_at(m, v, number, at));
+    if let Fault::At(number, segment) = early {
+        return Report::Refused(refusal_at(m, v, number, segment));
     }
     if fits(t, rows.len(), starts.len(), totals.len()) {
         let late = late_fault(m, v, t);
-        if let Fault::At(number, at) = late {
-            return Report::Refused(refusal_at(m, v, number, at));
+        if let Fault::At(number, segment) = late {
+            return Report::Refused(refusal_at(m, v, number, segment));
         }
         listing::put_segments(m, v, t.segments, rows, starts);
         listing::put_totals(m, v, t.orders, totals);

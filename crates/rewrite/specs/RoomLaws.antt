@@ -1,86 +1,85 @@
--- One token more, and one segment more: lengths stay small. Assumes nothing.
-use Prim.Native.Nat.{ℕ, _+_, _*_, _^_, _≤_, _<_}
+-- The answer of rewriting and the room after it, by the way it went. Assumes nothing.
+use Prim.Native.Nat.{ℕ, _≤_, _<_}
 use native.Mathlib.Omega.{arith}
-use mathlib.Core.Path.{_≡_}
+use mathlib.Core.Path.{_≡_, sym, _∙_, ap}
 use mathlib.Core.List.{List}
-use lib.ListN.{length, drop}
-use mir.Val.{Fits}
-use mir.Syntax.{w64}
+use mathlib.Core.Bool.{Bool, true, false}
+use lib.ListN.{length}
+use lib.Dec.{leb}
+use borrow.Author.Tests.{leb-true, le-leb, lt-leb}
 use Rattle.service.specs.declared.Service.{Service}
-use Rattle.segments.specs.declared.Segment.{Segment}
-use Rattle.segments.specs.declared.Segment.the-variants.{Finished}
-use Rattle.segments.specs.Segments.{segmentAt}
-use Rattle.segments.specs.SegmentsLaws.{lies}
-use Rattle.parts.specs.declared.Token.{Token}
-use Rattle.parts.specs.declared.Token.the-variants as token
-use Rattle.parts.specs.Lex.{tokenAt}
-use Rattle.parts.specs.LexLaws.{reads-byte, reads-comp, reads-elem}
+use Rattle.service.specs.ServiceLaws.{and-right}
+use Rattle.segments.specs.Classes.{if}
+use Rattle.interchange.specs.declared.Refusal.{Refusal}
+use Rattle.interchange.specs.declared.Opening.{Opening}
+use Rattle.interchange.specs.declared.Opening.the-variants as opening
+use Rattle.interchange.specs.Envelope.{refusal, openingOf}
+use Rattle.lent.specs.Over.{over}
 use Rattle.rewrite.specs.declared.Rewriting.{Rewriting}
-use Rattle.rewrite.specs.declared.Rewriting.the-variants.{Written}
-use Rattle.rewrite.specs.Room.{Room, written}
-use Rattle.lent.specs.Kept.{Onto}
+use Rattle.rewrite.specs.declared.Rewriting.the-variants.{Written, Refused}
+use Rattle.rewrite.specs.Plain.{valuesFrom, valuesOf, plain, rewritten, fits, fitting, rewritingBy, rewritingOf, roomBy, roomAfter}
+use Rattle.rewrite.specs.Puts.{Puts}
+use Rattle.rewrite.specs.PutsLaws.{puts-over, puts-length}
 
--- so much has been measured, or is pending, at a position
-pub record Small (s : List ℕ) (n i : ℕ) : Type 0 where
-  pub here : n ≤ 2 * i
-  pub whole : n ≤ 2 * length s
+-- ---- the tests of the code
+pub fits-long : (n room : ℕ) → 1048576 < n → false ≡ fits n room
+unfolding fits
+fits-long n room h = simp (lt-leb _ _ h)
 
-pub small-start : (s : List ℕ) (i : ℕ) → Small s 0 i
-small-start s i = record { here = omega arith; whole = omega arith }
+pub fits-short : (n room : ℕ) → n ≤ 1048576 → leb n room ≡ fits n room
+unfolding fits
+fits-short n room h = simp (le-leb _ _ h)
 
-module _ (v : Service) (s : List ℕ) (i n e c : ℕ) (w : Small s (n + e + c) i) (k : Token) (q : k ≡ tokenAt v i (drop i s)) where
-  pub small-byte : (b to : ℕ) → k ≡ token.Byte b to → (x : ℕ) → x ≤ 2 → Small s (n + e + c + x + 0 + 0) to
-  small-byte b to f x h = let r = reads-byte v s i k q b to f in record { here = omega (arith, w .here); whole = omega (arith, w .here) }
+fits-within : (n room : ℕ) → true ≡ fits n room → n ≤ room
+unfolding fits
+fits-within n room e = leb-true n room (and-right (leb n 1048576) (leb n room) (sym e))
 
-  pub small-comp : (to : ℕ) → k ≡ token.Comp to → Small s (n + e + (c + 1)) to
-  small-comp to f = let r = reads-comp v s i k q to f in record { here = omega (arith, w .here); whole = omega (arith, w .here) }
+-- ---- opening refused
+module _ (s : List ℕ) (o : Opening) (q : o ≡ openingOf s) (f : Refusal) (e : o ≡ opening.Refused f) where
+  pub refused-answer : (room : ℕ) → Refused f ≡ rewritingOf s room
+  unfolding rewritingOf
+  refused-answer room = rw (← q, e)
 
-  pub small-elem : (to : ℕ) → k ≡ token.Elem to → Small s (n + (e + 1) + 0) to
-  small-elem to f = let r = reads-elem v s i k q to f in record { here = omega (arith, w .here); whole = omega (arith, w .here) }
+  pub refused-room : (old : List ℕ) → old ≡ roomAfter s old
+  unfolding roomAfter rewritingOf
+  refused-room old = rw (← q, e)
 
-  pub small-add : length s ≤ 1048576 → Fits w64 (n + e)
-  small-add h = omega (arith, w .whole)
+-- ---- opened
+module _ (s : List ℕ) (o : Opening) (q : o ≡ openingOf s) (v : Service) (first : ℕ) (e : o ≡ opening.Opens v first) where
+  pub rewritten-is : rewritten s ≡ plain (valuesFrom v s first)
+  unfolding rewritten valuesOf
+  rewritten-is = rw (← q, e)
 
-  pub small-sum : length s ≤ 1048576 → Fits w64 (n + e + c)
-  small-sum h = omega (arith, w .whole)
+  answer-is : (room : ℕ) → rewritingOf s room ≡ fitting (length (plain (valuesFrom v s first))) room
+  unfolding rewritingOf
+  answer-is room = ap (λ (k : Opening). rewritingBy k (length (rewritten s)) room) (sym q ∙ e) ∙ ap (λ (l : List ℕ). fitting (length l) room) rewritten-is
 
-  pub small-width : length s ≤ 1048576 → (x : ℕ) → x ≤ 2 → Fits w64 (n + e + c + x)
-  small-width h x g = omega (arith, w .whole)
+  module _ (n : ℕ) (c : n ≡ length (plain (valuesFrom v s first))) (old : List ℕ) (t : Bool) (y : t ≡ fits n (length old)) where
+    pub long-answer : t ≡ false → (f : Refusal) → f ≡ refusal 9 → Refused f ≡ rewritingOf s (length old)
+    long-answer x f r =
+        sym (answer-is (length old) ∙ ap (λ (m : ℕ). fitting m (length old)) (sym c) ∙ ap (λ (b : Bool). if b (Written n) (Refused (refusal 9))) (sym y ∙ x) ∙ ap Refused (sym r))
 
-  pub small-one-comp : length s ≤ 1048576 → Fits w64 (c + 1)
-  small-one-comp h = omega (arith, w .whole)
+    pub long-room : t ≡ false → old ≡ roomAfter s old
+    unfolding roomAfter
+    long-room x =
+        sym (ap (λ (k : Rewriting). roomBy k (rewritten s) old) (answer-is (length old) ∙ ap (λ (m : ℕ). fitting m (length old)) (sym c) ∙ ap (λ (b : Bool). if b (Written n) (Refused (refusal 9))) (sym y ∙ x)))
 
-  pub small-one-elem : length s ≤ 1048576 → Fits w64 (e + 1)
-  small-one-elem h = omega (arith, w .whole)
+    module _ (x : t ≡ true) (new : List ℕ) (w : ℕ) (p : Puts 0 (plain (valuesFrom v s first)) old new w) where
+      room-short : length (plain (valuesFrom v s first)) ≤ length old
+      room-short = let h = fits-within n (length old) (sym x ∙ y) in omega arith
 
-  pub small-done : length s ≤ 1048576 → n ≤ 2097152
-  small-done h = omega (arith, w .whole)
+      written-is : w ≡ n
+      written-is = puts-length w (plain (valuesFrom v s first)) old new p room-short ∙ sym c
 
--- ---- separators that wait
-module _ (v : Service) (s : List ℕ) (i e c : ℕ) (w : e + c ≤ i) (k : Token) (q : k ≡ tokenAt v i (drop i s)) where
-  pub wait-comp : (to : ℕ) → k ≡ token.Comp to → e + (c + 1) ≤ to
-  wait-comp to f = let r = reads-comp v s i k q to f in omega arith
+      answer-so : rewritingOf s (length old) ≡ Written n
+      answer-so = answer-is (length old) ∙ ap (λ (m : ℕ). fitting m (length old)) (sym c) ∙ ap (λ (b : Bool). if b (Written n) (Refused (refusal 9))) (sym y ∙ x)
 
-  pub wait-elem : (to : ℕ) → k ≡ token.Elem to → e + 1 + 0 ≤ to
-  wait-elem to f = let r = reads-elem v s i k q to f in omega arith
+      pub written-answer : Written w ≡ rewritingOf s (length old)
+      written-answer = ap Written written-is ∙ sym answer-so
 
-  pub wait-comp-fits : (to : ℕ) → k ≡ token.Comp to → length s < 2 ^ 64 → Fits w64 (c + 1)
-  wait-comp-fits to f h = let r = reads-comp v s i k q to f in omega arith
-
-  pub wait-elem-fits : (to : ℕ) → k ≡ token.Elem to → length s < 2 ^ 64 → Fits w64 (e + 1)
-  wait-elem-fits to f h = let r = reads-elem v s i k q to f in omega arith
-
--- ---- the segments measured so far
-module _ (v : Service) (s : List ℕ) (i n : ℕ) (w : n ≤ 2097153 * i) (k : Segment) (q : k ≡ segmentAt v i s) (t p : ℕ) (f : k ≡ Finished t p) (x : ℕ) (g : x ≤ 2097152) where
-  pub sum-next : n + x + 1 ≤ 2097153 * p
-  sum-next = let r = lies v s i k q t p f in omega arith
-
-  pub sum-fits : length s ≤ 1048576 → Fits w64 (n + x)
-  sum-fits h = let r = lies v s i k q t p f in omega arith
-
-  pub sum-one-fits : length s ≤ 1048576 → Fits w64 (n + x + 1)
-  sum-one-fits h = let r = lies v s i k q t p f in omega arith
-
--- ---- the result
-pub room-written : (n : ℕ) (o o′ : List ℕ) → Onto 0 o o′ n → Room (Written n) o o′
-room-written n o o′ f = written n o o′ (f .kept)
+      pub written-room : new ≡ roomAfter s old
+      unfolding roomAfter
+      written-room =
+          puts-over w (plain (valuesFrom v s first)) old new p room-short
+          ∙ ap (λ (l : List ℕ). over l old) (sym rewritten-is)
+          ∙ sym (ap (λ (k : Rewriting). roomBy k (rewritten s) old) answer-so)

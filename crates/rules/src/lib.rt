@@ -1,4 +1,14 @@
 // What must hold of a placed message: one loop over its segments and their rows, and the rule of the lowest number that is broken.
+ghost use Prim.Native.Nat.{_+_};
+ghost use mathlib.Core.Path.{_≡_};
+ghost use lib.ListN.{length};
+ghost use Rattle.chart.specs.Tags.{tagsOf};
+ghost use Rattle.chart.specs.Next.{rowsOf};
+ghost use Rattle.message.specs.Segs.{segAt, segsOf, LIN, is};
+ghost use Rattle.message.specs.Rules.{count, paymul};
+ghost use Rattle.message.specs.Faults.{tellAll, leastOf};
+ghost use Rattle.message.specs.Run.{run as runOf};
+ghost use Rattle.rules.specs.Steps.{stateOf, allStart, allStep, trailerFirst, numbersFirst, amountsFirst};
 use amounts::Amounts;
 use chart::Cursor;
 use details::Details;
@@ -6,35 +16,59 @@ use faults::Fault;
 use numbering::Numbering;
 use parties::Parties;
 use service::Service;
+use trailer::Trailer;
 
 // The rules' states.
 pub struct State {
+    pub trailer: Trailer,
     pub numbering: Numbering,
     pub amounts: Amounts,
     pub parties: Parties,
     pub details: Details,
 }
 
-fn start() -> State {
+fn start() -> State
+    ensures { λ r. ⌜ r ≡ allStart ⌝ }
+{
+    let trailer = trailer::start();
+    let numbering = numbering::start();
+    let amounts = amounts::start();
+    let parties = parties::start();
+    let details = details::start();
     State {
-        numbering: numbering::start(),
-        amounts: amounts::start(),
-        parties: parties::start(),
-        details: details::start(),
+        trailer,
+        numbering,
+        amounts,
+        parties,
+        details,
     }
 }
 
-// One segment at its row.
-fn step(st: State, m: &[u8], v: Service, at: usize, row: usize, orders: u64) -> State {
+// One segment, the nth, at its row.
+fn step(
+    st: State,
+    m: &[u8],
+    v: Service,
+    at: usize,
+    nth: usize,
+    row: usize,
+    segments: u64,
+    orders: u64,
+) -> State
+    ensures { λ r. ⌜ stateOf v (now (m .entry)) r ≡ allStep v (now (m .entry)) segments orders (stateOf v (now (m .entry)) st) (segAt v (now (m .entry)) nth row at) ⌝ }
+{
+    let t = st.trailer;
     let n = st.numbering;
     let a = st.amounts;
     let p = st.parties;
     let d = st.details;
-    let numbering = numbering::step(n, m, v, at, row, orders);
-    let amounts = amounts::step(a, m, v, at, row);
-    let parties = parties::step(p, m, v, at, row);
-    let details = details::step(d, m, v, at, row);
+    let trailer = trailer::step(t, m, v, at, nth, row, segments);
+    let numbering = numbering::step(n, m, v, at, nth, row, orders);
+    let amounts = amounts::step(a, m, v, at, nth, row);
+    let parties = parties::step(p, m, v, at, nth, row);
+    let details = details::step(d, m, v, at, nth, row);
     State {
+        trailer,
         numbering,
         amounts,
         parties,
@@ -43,48 +77,76 @@ fn step(st: State, m: &[u8], v: Service, at: usize, row: usize, orders: u64) -> 
 }
 
 // The rules over the whole message.
-fn run(m: &[u8], v: Service, orders: u64) -> State {
+fn run(m: &[u8], v: Service, segments: u64, orders: u64) -> State
+    ensures { λ r. ⌜ stateOf v (now (m .entry)) r ≡ runOf (allStep v (now (m .entry)) segments orders) (stateOf v (now (m .entry)) allStart) (segsOf v (now (m .entry)) (rowsOf (tagsOf v (now (m .entry))))) ⌝ }
+{
     let mut st = start();
     let mut row: usize = 0;
+    let mut nth: usize = 0;
     let mut c = chart::cursor_at(m, 0, v);
     let mut at = c.at;
     while at < m.len() {
+        let next = nth + 1;
         row = chart::next_row(row, c.tag);
-        st = step(st, m, v, at, row, orders);
+        st = step(st, m, v, at, next, row, segments, orders);
         c = chart::step(m, v, c);
         at = c.at;
+        nth = next;
     }
     st
 }
 
 // The faults of amounts, before another.
-fn of_amounts(a: Amounts, other: Fault) -> Fault {
-    let form = a.bad_form;
-    let qualifier = a.bad_qualifier;
-    let currency = a.bad_currency;
-    let exchange = a.bad_exchange;
-    let total = a.bad_total;
-    let f26 = faults::before(26, total, other);
-    let f25 = faults::before(25, exchange, f26);
-    let f24 = faults::before(24, currency, f25);
-    let f23 = faults::before(23, qualifier, f24);
-    faults::before(22, form, f23)
+fn of_amounts(a: Amounts, other: Fault) -> Fault
+    ensures { λ r. ⌜ r ≡ amountsFirst a other ⌝ }
+{
+    let f22 = a.first22;
+    let f23 = a.first23;
+    let f24 = a.first24;
+    let f25 = a.first25;
+    let f26 = a.first26;
+    let g26 = faults::before(26, f26, other);
+    let g25 = faults::before(25, f25, g26);
+    let g24 = faults::before(24, f24, g25);
+    let g23 = faults::before(23, f23, g24);
+    faults::before(22, f22, g23)
 }
 
-// The rule of the lowest number that is broken, and its first place. `orders` is the number of LIN segments.
-pub fn judge(m: &[u8], v: Service, orders: u64) -> Fault {
-    let st = run(m, v, orders);
+// The faults of LIN and SEQ numbers, before another.
+fn of_numbers(n: Numbering, other: Fault) -> Fault
+    ensures { λ r. ⌜ r ≡ numbersFirst n other ⌝ }
+{
+    let f20 = n.first20;
+    let f21 = n.first21;
+    let g21 = faults::before(21, f21, other);
+    faults::before(20, f20, g21)
+}
+
+// The faults of the trailer, before another.
+fn of_trailer(t: Trailer, other: Fault) -> Fault
+    ensures { λ r. ⌜ r ≡ trailerFirst t other ⌝ }
+{
+    let f17 = t.first17;
+    let f18 = t.first18;
+    let g18 = faults::before(18, f18, other);
+    faults::before(17, f17, g18)
+}
+
+// The rule of the lowest number that is broken, and the first segment under it, in a message of so many segments and LIN segments.
+pub fn judge(m: &[u8], v: Service, segments: u64, orders: u64) -> Fault
+    ensures { λ r. ⌜ (segments ≡ length (segsOf v (now (m .entry)) (rowsOf (tagsOf v (now (m .entry))))) → orders ≡ count (is LIN) (segsOf v (now (m .entry)) (rowsOf (tagsOf v (now (m .entry))))) → r ≡ leastOf (tellAll (paymul (segsOf v (now (m .entry)) (rowsOf (tagsOf v (now (m .entry)))))))) ⌝ }
+{
+    let st = run(m, v, segments, orders);
+    let t = st.trailer;
     let n = st.numbering;
-    let line = n.bad_line;
-    let sequence = n.bad_sequence;
-    let control = n.bad_control;
+    let f29 = n.first29;
     let a = st.amounts;
     let p = st.parties;
     let d = st.details;
-    let f29 = faults::before(29, control, Fault::None);
-    let f28 = faults::before(28, details::close(d), f29);
-    let f27 = faults::before(27, parties::close(p), f28);
-    let f22 = of_amounts(amounts::close(a), f27);
-    let f21 = faults::before(21, sequence, f22);
-    faults::before(20, line, f21)
+    let g29 = faults::before(29, f29, Fault::None);
+    let g28 = faults::before(28, details::close(d), g29);
+    let g27 = faults::before(27, parties::close(p), g28);
+    let g22 = of_amounts(amounts::close(a, m, v), g27);
+    let g20 = of_numbers(n, g22);
+    of_trailer(t, g20)
 }

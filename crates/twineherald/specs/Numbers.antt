@@ -2,19 +2,23 @@
 use Prim.Native.Nat.{ℕ, _%_}
 use mathlib.Core.Path.{_≡_}
 use mathlib.Core.List.{List}
+use lib.ListN.{length}
+use Rattle.service.specs.declared.Service.{Service}
+use Rattle.service.specs.declared.Characters.the-variants.{Fit, Unfit}
+use Rattle.service.specs.Service.{charactersOf}
 use Rattle.interchange.specs.declared.Refusal.{Refusal}
+use Rattle.interchange.specs.Envelope.{refusal}
 use Rattle.interchange.specs.declared.Closing.{Closing}
 use Rattle.report.specs.declared.Counts.{Counts}
 use Rattle.report.specs.declared.Report.{Report}
 use Rattle.report.specs.declared.Report.the-variants as report
-use Rattle.report.specs.Lists as reported
+use Rattle.report.specs.Reported.{Reported}
 use Rattle.walk.specs.declared.Walked.{Walked}
 use Rattle.walk.specs.declared.Walked.the-variants as walk
-use Rattle.walk.specs.Lists as walked
-use Rattle.walk.specs.Frame.{stepTold, stepFrom}
+use Rattle.walk.specs.Walks.{Walks}
 use Rattle.rewrite.specs.declared.Rewriting.{Rewriting}
 use Rattle.rewrite.specs.declared.Rewriting.the-variants as rewrite
-use Rattle.rewrite.specs.Room as rewritten
+use Rattle.rewrite.specs.Plain.{rewritingOf, roomAfter}
 use Rattle.twineherald.specs.declared.ReportNumbers.{ReportNumbers}
 use Rattle.twineherald.specs.declared.StepNumbers.{StepNumbers}
 use Rattle.twineherald.specs.declared.ClosingNumbers.{ClosingNumbers}
@@ -51,20 +55,24 @@ stepOf (walk.Message a e r) = stepWith 1 a e (reportOf r)
 stepOf walk.Nothing = stepWith 0 0 0 nothingOf
 stepOf (walk.Refused f) = stepWith 0 0 0 (refusedOf f)
 
-abbrev pub rewritingOf : Rewriting → RewritingNumbers
-rewritingOf (rewrite.Written n) = record { number = 0; length = n % 4294967296 }
-rewritingOf (rewrite.Refused f) = record { number = f .number; length = 0 }
+abbrev pub rewritingNumbers : Rewriting → RewritingNumbers
+rewritingNumbers (rewrite.Written n) = record { number = 0; length = n % 4294967296 }
+rewritingNumbers (rewrite.Refused f) = record { number = f .number; length = 0 }
 
 -- what closing found
 abbrev pub closingNumbers : Closing → ClosingNumbers
 closingNumbers c = record { number = c .number; messages = c .messages % 4294967296; strays = c .strays % 4294967296 }
 
--- the numbers are those of an answer, the lists are as that answer leaves them, and it tells what the walk finds in the bytes b from at on
-pub data Stepped (b : List ℕ) (at : ℕ) : StepNumbers → List ℕ → List ℕ → List ℕ → List ℕ → List ℕ → List ℕ → Type 0 where
-  stepped : (w : Walked) (x : StepNumbers) (r r′ s s′ t t′ : List ℕ) → walked.Lists w r r′ s s′ t t′ → stepTold w ≡ stepFrom b at → x ≡ stepOf w → Stepped b at x r r′ s s′ t t′
+-- the numbers are those of the walk's answer from the position at in the bytes b
+pub data Stepped (b : List ℕ) (at : ℕ) (x : StepNumbers) (r r′ s s′ t t′ : List ℕ) : Type 0 where
+  stepped : (w : Walked) → Walks b at r r′ s s′ t t′ w → x ≡ stepOf w → Stepped b at x r r′ s s′ t t′
 
-pub data Reported : ReportNumbers → List ℕ → List ℕ → List ℕ → List ℕ → List ℕ → List ℕ → Type 0 where
-  reported-as : (w : Report) (x : ReportNumbers) (r r′ s s′ t t′ : List ℕ) → reported.Lists w r r′ s s′ t t′ → x ≡ reportOf w → Reported x r r′ s s′ t t′
+-- the numbers are those of the report of a message's bytes m, read with the service characters of an interchange that begins with h; 2 if these do not fit
+pub data Checked (h m : List ℕ) (x : ReportNumbers) (r r′ s s′ t t′ : List ℕ) : Type 0 where
+  checked : (v : Service) (una : ℕ) (w : Report) → charactersOf h ≡ Fit v una → Reported v m r r′ s s′ t t′ w → x ≡ reportOf w → Checked h m x r r′ s s′ t t′
+  unfit : charactersOf h ≡ Unfit → x ≡ refusedOf (refusal 2) → r′ ≡ r → s′ ≡ s → t′ ≡ t → Checked h m x r r′ s s′ t t′
 
-pub data Rewritten : RewritingNumbers → List ℕ → List ℕ → Type 0 where
-  rewritten-as : (w : Rewriting) (x : RewritingNumbers) (o o′ : List ℕ) → rewritten.Room w o o′ → x ≡ rewritingOf w → Rewritten x o o′
+-- the numbers are those of the answer for the bytes b and this room, and the room is as that answer leaves it
+pub record Rewritten (b : List ℕ) (x : RewritingNumbers) (o o′ : List ℕ) : Type 0 where
+  pub numbers : x ≡ rewritingNumbers (rewritingOf b (length o))
+  pub room : o′ ≡ roomAfter b o

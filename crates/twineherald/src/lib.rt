@@ -2,7 +2,7 @@
 ghost use mathlib.Core.Path.{_≡_};
 ghost use Prim.Native.Nat.{_%_};
 ghost use Rattle.interchange.specs.Envelope.{openingNumber, openingOf, closingOf};
-ghost use Rattle.twineherald.specs.Numbers.{acceptedOf, refusedOf, reportOf, nothingOf, stepWith, stepOf, closingNumbers, Stepped, Reported, Rewritten};
+ghost use Rattle.twineherald.specs.Numbers.{acceptedOf, refusedOf, reportOf, nothingOf, stepWith, stepOf, closingNumbers, Stepped, Checked, Rewritten};
 use interchange::Opening;
 use interchange::Refusal;
 use report::Counts;
@@ -144,7 +144,7 @@ pub extern "C" fn twineherald_check(
     starts: &mut [u32],
     totals: &mut [u64],
 ) -> ReportNumbers
-    ensures { λ x. ⌜ Reported x (now (rows .entry)) (now (rows .exit)) (now (starts .entry)) (now (starts .exit)) (now (totals .entry)) (now (totals .exit)) ⌝ }
+    ensures { λ x. ⌜ Checked (now (head .entry)) (now (message .entry)) x (now (rows .entry)) (now (rows .exit)) (now (starts .entry)) (now (starts .exit)) (now (totals .entry)) (now (totals .exit)) ⌝ }
 {
     let c = service::characters_of(head);
     match c {
@@ -170,7 +170,7 @@ pub extern "C" fn twineherald_close(bytes: &[u8]) -> ClosingNumbers
 
 #[no_mangle]
 pub extern "C" fn twineherald_rewrite(bytes: &[u8], room: &mut [u8]) -> RewritingNumbers
-    ensures { λ x. ⌜ Rewritten x (now (room .entry)) (now (room .exit)) ⌝ }
+    ensures { λ x. ⌜ Rewritten (now (bytes .entry)) x (now (room .entry)) (now (room .exit)) ⌝ }
 {
     let r = rewrite::rewrite(bytes, room);
     match r {

@@ -13,8 +13,6 @@ use Rattle.interchange.specs.declared.Found.{Found}
 use Rattle.interchange.specs.declared.Found.the-variants as found
 use Rattle.interchange.specs.Messages.{foundFrom}
 use Rattle.interchange.specs.Envelope.{refusal}
-use Rattle.walk.specs.declared.Walked.{Walked}
-use Rattle.walk.specs.declared.Walked.the-variants as walked
 
 -- a message from its start up to but excluding its end, "which is the next position"; "none is left"; or a refusal
 pub data Step : Type 0 where
@@ -40,9 +38,3 @@ stepWith s at Unfit = refused (refusal 2)
 -- 1: "interchange over 1,048,576 bytes"
 unfoldable pub stepFrom : List ℕ → ℕ → Step
 stepFrom s at = if (ltb 1048576 (length s)) (refused (refusal 1)) (stepWith s at (charactersOf s))
-
--- what an answer tells of this
-abbrev pub stepTold : Walked → Step
-stepTold (walked.Message a e r) = message a e
-stepTold walked.Nothing = nothing
-stepTold (walked.Refused f) = refused f

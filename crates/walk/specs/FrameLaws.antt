@@ -6,15 +6,14 @@ use lib.ListN.{length}
 use borrow.Author.Tests.{lt-ltb, le-ltb}
 use Rattle.service.specs.declared.Service.{Service}
 use Rattle.service.specs.declared.Characters.{Characters}
-use Rattle.service.specs.declared.Characters.the-variants.{Fit, Unfit}
+use Rattle.service.specs.declared.Characters.the-variants.{Unfit}
 use Rattle.service.specs.Service.{charactersOf}
 use Rattle.interchange.specs.declared.Refusal.{Refusal}
 use Rattle.interchange.specs.declared.Found.{Found}
 use Rattle.interchange.specs.declared.Found.the-variants as found
 use Rattle.interchange.specs.Messages.{foundFrom}
 use Rattle.interchange.specs.Envelope.{refusal}
-use Rattle.walk.specs.declared.Walked.{Walked}
-use Rattle.walk.specs.Frame.{Step, message, nothing, refused, stepBy, stepAt, stepWith, stepFrom, stepTold}
+use Rattle.walk.specs.Frame.{Step, message, nothing, refused, stepBy, stepAt, stepWith, stepFrom}
 
 module _ (v : Service) (s : List ℕ) (at : ℕ) where
   pub step-past : length s < at → (f : Refusal) → f ≡ refusal 8 → refused f ≡ stepAt v s at
@@ -41,12 +40,9 @@ module _ (s : List ℕ) (at : ℕ) where
   step-long h f e = ap refused e ∙ sym (rw (lt-ltb _ _ h))
 
   module _ (h : length s ≤ 1048576) (k : Characters) (c : k ≡ charactersOf s) where
-    step-named : stepFrom s at ≡ stepWith s at k
+    pub step-named : stepFrom s at ≡ stepWith s at k
     unfolding stepFrom
     step-named = rw (le-ltb _ _ h) (ap (stepWith s at) (sym c))
-
-    pub step-fit : (v : Service) (una : ℕ) → k ≡ Fit v una → (w : Walked) → stepTold w ≡ stepAt v s at → stepTold w ≡ stepFrom s at
-    step-fit v una q w e = e ∙ sym (step-named ∙ ap (stepWith s at) q)
 
     pub step-unfit : k ≡ Unfit → (f : Refusal) → f ≡ refusal 2 → refused f ≡ stepFrom s at
     step-unfit q f e = ap refused e ∙ sym (step-named ∙ ap (stepWith s at) q)

@@ -1,4 +1,6 @@
-pub mod Lists
-pub mod ListsLaws
+pub mod Place
+pub mod PlaceLaws
 pub mod Frame
 pub mod FrameLaws
+pub mod Walks
+pub mod WalksLaws

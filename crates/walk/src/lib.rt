@@ -1,8 +1,7 @@
 // The next message of an interchange from any position, found and judged.
-ghost use mathlib.Core.Path.{_≡_};
 ghost use lib.ListN.{length};
-ghost use Rattle.walk.specs.Frame.{stepAt, stepFrom, stepTold};
-ghost use Rattle.walk.specs.Lists.{Lists, Place};
+ghost use Rattle.walk.specs.Place.{Place};
+ghost use Rattle.walk.specs.Walks.{Walks, WalksWith};
 use interchange::Found;
 use interchange::Refusal;
 use report::Report;
@@ -25,9 +24,8 @@ fn walk_with(
     starts: &mut [u32],
     totals: &mut [u64],
 ) -> Walked
-    ensures { λ r. ⌜ Lists r (now (rows .entry)) (now (rows .exit)) (now (starts .entry)) (now (starts .exit)) (now (totals .entry)) (now (totals .exit)) ⌝ }
     ensures { λ r. ⌜ Place (length (now (s .entry))) at r ⌝ }
-    ensures { λ r. ⌜ stepTold r ≡ stepAt v (now (s .entry)) at ⌝ }
+    ensures { λ r. ⌜ WalksWith v (now (s .entry)) at (now (rows .entry)) (now (rows .exit)) (now (starts .entry)) (now (starts .exit)) (now (totals .entry)) (now (totals .exit)) r ⌝ }
 {
     if s.len() < at {
         return Walked::Refused(interchange::refuse(8));
@@ -45,9 +43,8 @@ fn walk_with(
 
 // Finds the next message from the position `at` on, and checks it.
 pub fn walk(s: &[u8], at: usize, rows: &mut [u16], starts: &mut [u32], totals: &mut [u64]) -> Walked
-    ensures { λ r. ⌜ Lists r (now (rows .entry)) (now (rows .exit)) (now (starts .entry)) (now (starts .exit)) (now (totals .entry)) (now (totals .exit)) ⌝ }
     ensures { λ r. ⌜ Place (length (now (s .entry))) at r ⌝ }
-    ensures { λ r. ⌜ stepTold r ≡ stepFrom (now (s .entry)) at ⌝ }
+    ensures { λ r. ⌜ Walks (now (s .entry)) at (now (rows .entry)) (now (rows .exit)) (now (starts .entry)) (now (starts .exit)) (now (totals .entry)) (now (totals .exit)) r ⌝ }
 {
     if interchange::MOST < s.len() {
         return Walked::Refused(interchange::refuse(1));

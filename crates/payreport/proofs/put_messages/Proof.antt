@@ -3,7 +3,7 @@ use borrow.Author.Needs.{needs}
 use Prim.Native.Nat.{_-_, _≤_}
 use mathlib.Core.Path.{_≡_}
 use lib.ListN.{length}
-use Rattle.walk.specs.ListsLaws.{walk-less, walk-count, walk-count-fits, walk-add, walk-add-fits}
+use Rattle.walk.specs.PlaceLaws.{walk-less, walk-count, walk-count-fits, walk-add, walk-add-fits}
 use Rattle.payreport.proofs.put_messages.Statement.{statement}
 use Rattle.payreport.proofs.put_messages.Tie as tie
 use Rattle.payreport.proofs.put_messages.Reads as reads

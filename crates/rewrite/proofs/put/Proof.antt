@@ -1,5 +1,6 @@
 -- `rewrite::put` meets its contract. Assumes nothing.
-use Rattle.lent.specs.KeptLaws.{onto-start, onto-set}
+use borrow.Author.Needs.{needs}
+use Rattle.rewrite.specs.PutsLaws.{puts-set, puts-full}
 use borrow.Author.Needs.{needs}
 use Rattle.rewrite.proofs.put.Statement.{statement}
 use Rattle.rewrite.proofs.put.Tie as tie
@@ -7,19 +8,19 @@ use Rattle.rewrite.proofs.put.Reads as reads
 use Rattle.rewrite.proofs.put.Lts as lts
 
 slice-write-out : tie.Need-slice-write-out
-slice-write-out c = search (onto-start, onto-set, needs)
+slice-write-out c = search (puts-set, puts-full, needs)
 
 add-result : tie.Need-add-result
-add-result c = search (onto-start, onto-set, needs)
+add-result c = search (puts-set, puts-full, needs)
 
 same-length : tie.Need-same-length
-same-length c = search (onto-start, onto-set, needs)
+same-length c = search (puts-set, puts-full, needs)
 
 returns : tie.Need-returns
-returns c = search (onto-start, onto-set, needs)
+returns c = search (puts-set, puts-full, needs)
 
 returns-2 : tie.Need-returns-2
-returns-2 c = search (onto-start, onto-set, needs)
+returns-2 c = search (puts-set, puts-full, needs)
 
 pub put-spec : {M : Type 1} → statement M
 put-spec = tie.close (tie.spec slice-write-out add-result same-length returns returns-2)

@@ -1,0 +1,15 @@
+pub mod Runs
+pub mod RunLaws
+pub mod OtherMessages
+pub mod DamageWhole
+pub mod Verdicts
+pub mod VerdictLaws
+pub mod RewriteKeeps
+pub mod MessageCases
+pub mod MessageCasesLaws
+pub mod Cases
+pub mod CasesLaws
+pub mod OneAnswer
+pub mod OneAnswerLaws
+pub mod Demands
+pub mod DemandsMet

@@ -1,0 +1,11 @@
+pub mod Text
+pub mod Segs
+pub mod Rules
+pub mod Faults
+pub mod Run
+pub mod FirstLaws
+pub mod LevelLaws
+pub mod FaultLaws
+pub mod ValueLaws
+pub mod LoopLaws
+pub mod CountLaws

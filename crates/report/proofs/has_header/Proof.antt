@@ -1,0 +1,46 @@
+-- `report::has_header` meets its contract. Assumes nothing.
+use Rattle.report.specs.ChecksLaws.{header-by}
+use borrow.Author.Needs.{needs}
+use Rattle.report.proofs.has_header.Statement.{statement}
+use Rattle.report.proofs.has_header.Tie as tie
+use Rattle.report.proofs.has_header.Reads as reads
+use Rattle.report.proofs.has_header.Lts as lts
+use Rattle.interchange.proofs.is_reference.Reads as is-reference-reads
+use Rattle.parts.proofs.component.Reads as component-reads
+use Rattle.truth.proofs.both.Reads as both-reads
+use Rattle.report.proofs.is_paymul.Reads as is-paymul-reads
+use Rattle.values.proofs.code_at.Reads as code-at-reads
+use Rattle.values.proofs.value_len.Reads as value-len-reads
+
+code-at-requires : tie.Need-code-at-requires
+code-at-requires c κs = search (header-by, needs)
+
+component-requires : tie.Need-component-requires
+component-requires c κs = search (header-by, needs)
+
+value-len-requires : tie.Need-value-len-requires
+value-len-requires c κs = search (header-by, needs)
+
+is-reference-requires : tie.Need-is-reference-requires
+is-reference-requires c κs = search (header-by, needs)
+
+both-requires : tie.Need-both-requires
+both-requires c κs = search (header-by, needs)
+
+is-paymul-requires : tie.Need-is-paymul-requires
+is-paymul-requires c κs = search (header-by, needs)
+
+returns : tie.Need-returns
+returns c = search (header-by, needs)
+
+pub has-header-spec : {M : Type 1} → statement M
+has-header-spec =
+    tie.close
+    (tie.spec
+    code-at-requires
+    component-requires
+    value-len-requires
+    is-reference-requires
+    both-requires
+    is-paymul-requires
+    returns)

@@ -1,0 +1,50 @@
+-- `report::is_paymul` meets its contract. Assumes nothing.
+use Rattle.report.specs.ChecksLaws.{typed-by}
+use borrow.Author.Needs.{needs}
+use Rattle.report.proofs.is_paymul.Statement.{statement}
+use Rattle.report.proofs.is_paymul.Tie as tie
+use Rattle.report.proofs.is_paymul.Reads as reads
+use Rattle.report.proofs.is_paymul.Lts as lts
+use Rattle.truth.proofs.both.Reads as both-reads
+use Rattle.values.proofs.code_in.Reads as code-in-reads
+
+code-in-requires : tie.Need-code-in-requires
+code-in-requires c κs = search (typed-by, needs)
+
+code-in-requires-2 : tie.Need-code-in-requires-2
+code-in-requires-2 c κs = search (typed-by, needs)
+
+code-in-requires-3 : tie.Need-code-in-requires-3
+code-in-requires-3 c κs = search (typed-by, needs)
+
+code-in-requires-4 : tie.Need-code-in-requires-4
+code-in-requires-4 c κs = search (typed-by, needs)
+
+both-requires : tie.Need-both-requires
+both-requires c κs = search (typed-by, needs)
+
+both-requires-2 : tie.Need-both-requires-2
+both-requires-2 c κs = search (typed-by, needs)
+
+both-requires-3 : tie.Need-both-requires-3
+both-requires-3 c κs = search (typed-by, needs)
+
+both-requires-4 : tie.Need-both-requires-4
+both-requires-4 c κs = search (typed-by, needs)
+
+returns : tie.Need-returns
+returns c = search (typed-by, needs)
+
+pub is-paymul-spec : {M : Type 1} → statement M
+is-paymul-spec =
+    tie.close
+    (tie.spec
+    code-in-requires
+    code-in-requires-2
+    code-in-requires-3
+    code-in-requires-4
+    both-requires
+    both-requires-2
+    both-requires-3
+    both-requires-4
+    returns)

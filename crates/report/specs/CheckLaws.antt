@@ -1,0 +1,288 @@
+-- The ways through a check, each to `Reported`. Assumes nothing.
+use Prim.Native.Nat.{ℕ, zero, suc, _+_, _%_, _≤_, _<_}
+use native.Mathlib.Nat.{mod-eq-of-lt}
+use native.Mathlib.Omega.{arith}
+use native.Mathlib.Decide.{decLt}
+use mathlib.Core.Path.{_≡_, refl, sym, ap, _∙_, subst}
+use mathlib.Core.List.{List, [], _∷_}
+use mathlib.Core.Bool.{Bool, true, false, _&&_}
+use lib.ListN.{length}
+use lib.Dec.{eqb, leb, ltb}
+use borrow.Author.Tests.{ne-eqb, le-leb, lt-leb, le-ltb, lt-ltb, leb-true}
+use Rattle.service.specs.declared.Service.{Service}
+use Rattle.segments.specs.Classes.{if}
+use Rattle.segments.specs.SegmentList.{segmentsFrom}
+use Rattle.faults.specs.declared.First.{First}
+use Rattle.faults.specs.declared.First.the-variants as first
+use Rattle.faults.specs.declared.Fault.{Fault}
+use Rattle.faults.specs.declared.Fault.the-variants as fault
+use Rattle.faults.specs.Firsts.{lesser, placeUnless, numberFirst}
+use Rattle.tally.specs.declared.Tally.{Tally}
+use Rattle.tally.specs.Tallied.{tallyOf}
+use Rattle.tally.specs.Places.{passed, startAfter}
+use Rattle.interchange.specs.declared.Refusal.{Refusal}
+use Rattle.interchange.specs.Envelope.{refusal}
+use Rattle.listing.specs.Listing.{Listed, Totalled}
+use Rattle.chart.specs.Chart.{Reading}
+use Rattle.chart.specs.Table.{chart}
+use Rattle.chart.specs.Table as table
+use Rattle.chart.specs.Next.{rowsOf}
+use Rattle.chart.specs.Answer.{StuckAt}
+use Rattle.chart.proofs.Answers.{unt-stuck}
+use Rattle.chart.specs.Tags.{tagsOf, startAt}
+use Rattle.chart.specs.TagsLaws.{tags-few}
+use Rattle.message.specs.Run.{firstOf}
+use Rattle.message.specs.Segs.{segsOf, LIN, SEQ, is}
+use Rattle.message.specs.Rules.{count, paymul}
+use Rattle.message.specs.Faults.{told, tellAll, leastOf}
+use Rattle.report.specs.declared.Counts.{Counts}
+use Rattle.report.specs.declared.Report.{Report}
+use Rattle.report.specs.declared.Report.the-variants.{Accepted, Refused}
+use Rattle.report.specs.Reported.{Room, toldUnless, rule10, closed, headed, lines, fits, early, Lowest, badIn, orElse, offsetOf, Reported, accepted, refused}
+use Rattle.report.specs.EarlyLaws.{early-least, early-lowest, early-none, numbers-told, late-numbers}
+use Rattle.report.specs.LateLaws.{late-none, late-lowest, misfit-lowest}
+use Rattle.report.specs.LeastLaws.{least-told}
+use Rattle.report.specs.SmallLaws.{late-within}
+use Rattle.report.specs.CountLaws.{times, lin-tags, seq-tags}
+use Rattle.report.specs.FillLaws.{rows-are, placed-length, rows-over, starts-over, totals-over}
+use Rattle.report.specs.ClosedLaws.{Closes, closes}
+use Rattle.report.specs.UntLaws.{closedAt, closed-is}
+use Rattle.report.specs.PieceLaws.{Pieced, pieced, start-is, number-is}
+use Rattle.report.specs.TenLaws.{Ten, ten-none, ten-at}
+use Rattle.report.specs.Checks.{earlyFault, Late, placed, stuck, byteRefusal, startBy, refusalAt}
+
+-- ---- 1 and 10 to 14 as a chain of tests
+first-told : (b : Bool) (s : ℕ) → firstOf (toldUnless b s) ≡ placeUnless b s
+unfolding firstOf lesser
+first-told true s = refl
+first-told false s = refl
+
+abbrev chain : Bool → First → Bool → Bool → Bool → Bool → Fault
+chain a b c d e f =
+    numberFirst 1 (placeUnless a 0)
+    (numberFirst 10 b (numberFirst 11 (placeUnless c 1) (numberFirst 12 (placeUnless d 1) (numberFirst 13 (placeUnless e 10000) (numberFirst 14 (placeUnless f 0) fault.None)))))
+
+-- the number and segment of a fault under 11 to 13
+record Plain (n k : ℕ) : Type 0 where
+  other : eqb n 10 ≡ false
+  some : 1 ≤ k
+  few : k ≤ 10000
+
+plain-by : (n k n′ k′ : ℕ) → fault.At n k ≡ fault.At n′ k′ → Plain n k → Plain n′ k′
+plain-by n k n′ k′ e p =
+    let a : n ≡ n′ = cc in
+    let b : k ≡ k′ = cc in
+    let x = p .some in
+    let y = p .few in
+    record { other = subst (λ (i : ℕ). eqb i 10 ≡ false) a (p .other); some = omega arith; few = omega arith }
+
+not-none : (n k : ℕ) → fault.At n k ≡ fault.None → ⊥
+not-none n k e = let z : _≡_ {A = ℕ} 0 1 = cc in omega arith
+
+module _ (n len : ℕ) (f : Bool) where
+  early-at : (c h : Bool) → (c ≡ true → len ≡ n) → (a k : ℕ) → earlyFault c h n ≡ fault.At a k → (chain true first.None c h (leb len 9999) f ≡ fault.At a k) × Plain a k
+  early-at false h g a k e = (e, plain-by 11 1 a k e (record { other = refl; some = omega arith; few = omega arith }))
+  early-at true false g a k e = (e, plain-by 12 1 a k e (record { other = refl; some = omega arith; few = omega arith }))
+  early-at true true g a k e = go (decLt 9999 n)
+    where
+      go : Dec (9999 < n) → (chain true first.None true true (leb len 9999) f ≡ fault.At a k) × Plain a k
+      go (yes h) =
+          let q = g refl in
+          let l : 9999 < len = omega arith in
+          let w : fault.At 13 10000 ≡ fault.At a k = sym (ap (λ (b : Bool). if b (fault.At 13 10000) fault.None) (lt-ltb 9999 n h)) ∙ e in
+          (ap (λ (b : Bool). chain true first.None true true b f) (lt-leb len 9999 l) ∙ w, plain-by 13 10000 a k w (record { other = refl; some = omega arith; few = omega arith }))
+      go (no h) =
+          let l : n ≤ 9999 = omega arith in
+          absurd (not-none a k (sym e ∙ ap (λ (b : Bool). if b (fault.At 13 10000) fault.None) (le-ltb 9999 n l)))
+
+  early-pass : (c h : Bool) → (c ≡ true → len ≡ n) → earlyFault c h n ≡ fault.None → (c ≡ true) × (chain true first.None c h (leb len 9999) f ≡ numberFirst 14 (placeUnless f 0) fault.None)
+  early-pass false h g e = absurd (not-none 11 1 e)
+  early-pass true false g e = absurd (not-none 12 1 e)
+  early-pass true true g e = go (decLt 9999 n)
+    where
+      go : Dec (9999 < n) → (true ≡ true) × (chain true first.None true true (leb len 9999) f ≡ numberFirst 14 (placeUnless f 0) fault.None)
+      go (yes h) = absurd (not-none 13 10000 (sym (ap (λ (b : Bool). if b (fault.At 13 10000) fault.None) (lt-ltb 9999 n h)) ∙ e))
+      go (no h) =
+          let q = g refl in
+          let l : len ≤ 9999 = omega arith in
+          (refl, ap (λ (b : Bool). chain true first.None true true b f) (le-leb len 9999 l))
+
+-- ---- what the tally has
+abbrev pub tallied : Service → List ℕ → Tally
+tallied v m = tallyOf v m (segmentsFrom v m 0)
+
+abbrev pub roomOf : List ℕ → List ℕ → List ℕ → Room
+roomOf r s t = record { rows = length r; starts = length s; totals = length t }
+
+all-true : (a b c : Bool) → a && b && c ≡ true → (a ≡ true) × (b ≡ true) × (c ≡ true)
+all-true true true true e = (refl, refl, refl)
+all-true true true false e = absurd (let z : _≡_ {A = ℕ} 0 1 = cc in omega arith)
+all-true true false c e = absurd (let z : _≡_ {A = ℕ} 0 1 = cc in omega arith)
+all-true false b c e = absurd (let z : _≡_ {A = ℕ} 0 1 = cc in omega arith)
+
+module _ (v : Service) (m : List ℕ) where
+  early-chain : (x : Room) → leastOf (tellAll (early v m (segmentsFrom v m 0) x))
+      ≡ chain (leb (length m) 1048576) (firstOf (rule10 m 1 (segmentsFrom v m 0))) (closed v m (segmentsFrom v m 0)) (headed v m) (leb (length (segmentsFrom v m 0)) 9999) (fits v m (segmentsFrom v m 0) x)
+  unfolding early
+  early-chain x =
+      early-least v m (segmentsFrom v m 0) x
+      ∙ rw (first-told (leb (length m) 1048576) 0, first-told (closed v m (segmentsFrom v m 0)) 1, first-told (headed v m) 1, first-told (leb (length (segmentsFrom v m 0)) 9999) 10000, first-told (fits v m (segmentsFrom v m 0) x) 0)
+
+  module _ (r s t : List ℕ) where
+    refuse-by : (n k o : ℕ) (f : Refusal) → f .number ≡ n → f .segment ≡ k → f .offset ≡ o → Lowest v m (roomOf r s t) n k → o ≡ offsetOf v m n k → Reported v m r r s s t t (Refused f)
+    refuse-by n k o f a b c l q =
+        let e : f ≡ record { number = n; segment = k; offset = o } = λ i. record { number = a i; segment = b i; offset = c i } in
+        subst (λ (g : Refusal). Reported v m r r s s t t (Refused g)) (sym e) (refused (record { number = n; segment = k; offset = o }) l q refl refl refl)
+
+    -- 1
+    pub check-long : 1048576 < length m → (f : Refusal) → f ≡ refusal 1 → Reported v m r r s s t t (Refused f)
+    unfolding offsetOf
+    check-long h f e =
+        refuse-by 1 0 0 f (ap (λ (g : Refusal). g .number) e) (ap (λ (g : Refusal). g .segment) e) (ap (λ (g : Refusal). g .offset) e)
+        (early-lowest v m (roomOf r s t) 1 0 (early-chain (roomOf r s t) ∙ rw (lt-leb (length m) 1048576 h))) refl
+
+    module _ (small : length m ≤ 1048576) where
+      start-high : (k : ℕ) → startBy v m k ≤ length m
+      start-high zero = omega arith
+      start-high (suc k) = let e = start-is v m k in let h = pieced v m .high k in omega arith
+
+      start-offset : (n k : ℕ) → eqb n 10 ≡ false → 1 ≤ k → startBy v m k ≡ offsetOf v m n k
+      unfolding offsetOf
+      start-offset n zero e h = absurd (omega arith)
+      start-offset n (suc k) e h = rw e (start-is v m k)
+
+      -- the refusal that `refusal_at` gives
+      refuse-at : (n k : ℕ) → eqb n 10 ≡ false → 1 ≤ k → k ≤ 1048576 → Lowest v m (roomOf r s t) n k → (f : Refusal) → f ≡ refusalAt v m n k → Reported v m r r s s t t (Refused f)
+      refuse-at n k o lo hi l f e =
+          let h = start-high k in
+          refuse-by n k (startBy v m k) f (ap (λ (g : Refusal). g .number) e) (ap (λ (g : Refusal). g .segment) e ∙ mod-eq-of-lt (omega arith)) (ap (λ (g : Refusal). g .offset) e ∙ mod-eq-of-lt (omega arith)) l (start-offset n k o lo)
+
+      -- 10
+      pub check-byte : (z : Tally) → z ≡ tallied v m → (p : ℕ) → z .bad ≡ first.At p → (f : Refusal) → f ≡ byteRefusal v m p → Reported v m r r s s t t (Refused f)
+      unfolding offsetOf
+      check-byte z c p q f e =
+          let b : tallied v m .bad ≡ first.At p = sym (ap (λ (y : Tally). y .bad) c) ∙ q in
+          let w = ten-at v m p b in
+          let g = w .few in
+          let d = pieced v m .count in
+          let i = tags-few v m 0 in
+          let u = w .low in
+          let x : passed (length m) p (segmentsFrom v m 0) % 4294967295 ≡ passed (length m) p (segmentsFrom v m 0) = mod-eq-of-lt (omega arith) in
+          refuse-by 10 (suc (passed (length m) p (segmentsFrom v m 0))) p f (ap (λ (g : Refusal). g .number) e)
+          (ap (λ (g : Refusal). g .segment) e ∙ ap (λ (j : ℕ). (j + 1) % 4294967296) x ∙ mod-eq-of-lt (omega arith) ∙ omega arith)
+          (ap (λ (g : Refusal). g .offset) e ∙ mod-eq-of-lt (omega arith))
+          (early-lowest v m (roomOf r s t) 10 (suc (passed (length m) p (segmentsFrom v m 0))) (early-chain (roomOf r s t) ∙ rw (le-leb (length m) 1048576 small, w .told) (ap (fault.At 10) (omega arith))))
+          (sym (ap (λ (y : First). orElse y 0) (w .byte)))
+
+      module _ (z : Tally) (c : z ≡ tallied v m) (clean : z .bad ≡ first.None) where
+        quiet : leastOf (tellAll (early v m (segmentsFrom v m 0) (roomOf r s t)))
+            ≡ chain true first.None (closed v m (segmentsFrom v m 0)) (headed v m) (leb (length (segmentsFrom v m 0)) 9999) (fits v m (segmentsFrom v m 0) (roomOf r s t))
+        quiet = early-chain (roomOf r s t) ∙ rw (le-leb (length m) 1048576 small, ten-none v m (sym (ap (λ (y : Tally). y .bad) c) ∙ clean))
+
+        segments-as : closed v m (segmentsFrom v m 0) ≡ true → length (segmentsFrom v m 0) ≡ z .segments
+        segments-as h = pieced v m .count ∙ sym (closes v m h .segments) ∙ sym (ap (λ (y : Tally). y .segments) c)
+
+        module _ (e : Fault) (d : e ≡ earlyFault (closedAt v m (z .unt)) (headed v m) (z .segments)) where
+          early-as : e ≡ earlyFault (closed v m (segmentsFrom v m 0)) (headed v m) (z .segments)
+          early-as = d ∙ ap (λ (b : Bool). earlyFault b (headed v m) (z .segments)) (ap (λ (y : Tally). closedAt v m (y .unt)) c ∙ closed-is v m)
+
+          -- 11 to 13
+          pub check-early : (n k : ℕ) → e ≡ fault.At n k → (f : Refusal) → f ≡ refusalAt v m n k → Reported v m r r s s t t (Refused f)
+          check-early n k q f g =
+              let w = early-at (z .segments) (length (segmentsFrom v m 0)) (fits v m (segmentsFrom v m 0) (roomOf r s t)) (closed v m (segmentsFrom v m 0)) (headed v m) segments-as n k (sym early-as ∙ q) in
+              let hi = w .1 .few in
+              refuse-at n k (w .1 .other) (w .1 .some) (omega arith) (early-lowest v m (roomOf r s t) n k (quiet ∙ w .0)) f g
+
+          module _ (q : e ≡ fault.None) where
+            passes : (closed v m (segmentsFrom v m 0) ≡ true)
+                × (chain true first.None (closed v m (segmentsFrom v m 0)) (headed v m) (leb (length (segmentsFrom v m 0)) 9999) (fits v m (segmentsFrom v m 0) (roomOf r s t)) ≡ numberFirst 14 (placeUnless (fits v m (segmentsFrom v m 0) (roomOf r s t)) 0) fault.None)
+            passes = early-pass (z .segments) (length (segmentsFrom v m 0)) (fits v m (segmentsFrom v m 0) (roomOf r s t)) (closed v m (segmentsFrom v m 0)) (headed v m) segments-as (sym early-as ∙ q)
+
+            shut : Closes v m 0
+            shut = closes v m (passes .0)
+
+            segments-are : z .segments ≡ length (tagsOf v m)
+            segments-are = ap (λ (y : Tally). y .segments) c ∙ shut .segments
+
+            orders-are : z .orders ≡ times table.LIN (tagsOf v m)
+            orders-are = ap (λ (y : Tally). y .orders) c ∙ shut .orders
+
+            payments-are : z .payments ≡ times table.SEQ (tagsOf v m)
+            payments-are = ap (λ (y : Tally). y .payments) c ∙ shut .payments
+
+            fits-as : fits v m (segmentsFrom v m 0) (roomOf r s t) ≡ leb (z .segments) (length r) && leb (z .segments) (length s) && leb (z .orders) (length t)
+            unfolding fits
+            fits-as = rw (segments-as (passes .0), pieced v m .lins, orders-are)
+
+            module _ (b : Bool) (w : b ≡ leb (z .segments) (length r) && leb (z .segments) (length s) && leb (z .orders) (length t)) where
+              early-ends : leastOf (tellAll (early v m (segmentsFrom v m 0) (roomOf r s t))) ≡ numberFirst 14 (placeUnless b 0) fault.None
+              early-ends = quiet ∙ passes .1 ∙ ap (λ (x : Bool). numberFirst 14 (placeUnless x 0) fault.None) (fits-as ∙ sym w)
+
+              -- 14
+              pub check-room : b ≡ false → (f : Refusal) → f ≡ refusal 14 → Reported v m r r s s t t (Refused f)
+              unfolding offsetOf
+              check-room g f h =
+                  refuse-by 14 0 0 f (ap (λ (g : Refusal). g .number) h) (ap (λ (g : Refusal). g .segment) h) (ap (λ (g : Refusal). g .offset) h)
+                  (early-lowest v m (roomOf r s t) 14 0 (early-ends ∙ rw g)) refl
+
+              module _ (g : b ≡ true) where
+                none-early : tellAll (early v m (segmentsFrom v m 0) (roomOf r s t)) ≡ []
+                none-early = early-none v m (roomOf r s t) (early-ends ∙ rw g)
+
+                room : (leb (z .segments) (length r) ≡ true) × (leb (z .segments) (length s) ≡ true) × (leb (z .orders) (length t) ≡ true)
+                room = all-true (leb (z .segments) (length r)) (leb (z .segments) (length s)) (leb (z .orders) (length t)) (sym w ∙ g)
+
+                module _ (l : Fault) where
+                  -- 17 to 29
+                  late-placed : Reading chart (tagsOf v m) (rowsOf (tagsOf v m)) → l ≡ leastOf (tellAll (paymul (segsOf v m (rowsOf (tagsOf v m)))))
+                      → (n k : ℕ) → l ≡ fault.At n k → (f : Refusal) → f ≡ refusalAt v m n k → Reported v m r r s s t t (Refused f)
+                  late-placed rd h n k p f y =
+                      let u = sym h ∙ p in
+                      let i = least-told (tellAll (paymul (segsOf v m (rowsOf (tagsOf v m))))) n k u in
+                      let lo = numbers-told 17 29 _ (told n k) (late-numbers (segsOf v m (rowsOf (tagsOf v m)))) i .0 in
+                      let x = late-within v m (rowsOf (tagsOf v m)) n k i in
+                      let hi = x .1 in
+                      let a = rows-are v m in
+                      let few = tags-few v m 0 in
+                      refuse-at n k (ne-eqb n 10 (λ (j : n ≡ 10). omega arith)) (x .0) (omega arith)
+                      (late-lowest v m (roomOf r s t) (rowsOf (tagsOf v m)) rd none-early n k u) f y
+
+                  -- 16
+                  late-stuck : (p : ℕ) → StuckAt v m p → l ≡ fault.At 16 (passed (length m) p (segmentsFrom v m 0) % 4294967295 + 1)
+                      → (n k : ℕ) → l ≡ fault.At n k → (f : Refusal) → f ≡ refusalAt v m n k → Reported v m r r s s t t (Refused f)
+                  late-stuck p a h n k y f x =
+                      let u = unt-stuck v m p a (shut .before) (shut .last) in
+                      let j = u .0 in
+                      let fm = u .2 in
+                      let lt = fm .within in
+                      let few = tags-few v m 0 in
+                      let o : passed (length m) p (segmentsFrom v m 0) ≡ j = ap (λ (i : ℕ). passed (length m) i (segmentsFrom v m 0)) (u .1) ∙ number-is v m j lt in
+                      let i : j % 4294967295 ≡ j = mod-eq-of-lt (omega arith) in
+                      let aa : fault.At 16 (j + 1) ≡ fault.At n k = sym (h ∙ ap (λ (i : ℕ). fault.At 16 (i % 4294967295 + 1)) o ∙ ap (λ (i : ℕ). fault.At 16 (i + 1)) i) ∙ y in
+                      let n16 : 16 ≡ n = cc in
+                      let kj : j + 1 ≡ k = cc in
+                      refuse-at n k (subst (λ (i : ℕ). eqb i 10 ≡ false) n16 refl) (omega arith) (omega arith)
+                      (subst (λ (i : ℕ). Lowest v m (roomOf r s t) i k) n16 (subst (λ (i : ℕ). Lowest v m (roomOf r s t) 16 i) kj (misfit-lowest v m (roomOf r s t) j fm none-early))) f x
+
+                  pub check-late : Late v m (z .segments) (z .orders) l → (n k : ℕ) → l ≡ fault.At n k → (f : Refusal) → f ≡ refusalAt v m n k → Reported v m r r s s t t (Refused f)
+                  check-late (placed rd h) = late-placed rd (h (segments-are ∙ sym (placed-length v m)) (orders-are ∙ sym (lin-tags v m (rd .placement))))
+                  check-late (stuck p a h) = late-stuck p a h
+
+                  -- accepted
+                  module _ (r1 s1 t1 : List ℕ) (done : Listed v m (z .segments) r r1 s s1) (full : Totalled v m (z .orders) t t1) where
+                    done-by : Late v m (z .segments) (z .orders) l → l ≡ fault.None → (n : Counts) → n ≡ record { segments = z .segments; orders = z .orders; payments = z .payments } → Reported v m r r1 s s1 t t1 (Accepted n)
+                    done-by (stuck p a h) y n k = absurd (not-none 16 _ (sym h ∙ y))
+                    done-by (placed rd h) y n k =
+                        let o = orders-are ∙ sym (lin-tags v m (rd .placement)) in
+                        let x = h (segments-are ∙ sym (placed-length v m)) o in
+                        let ro = leb-true _ _ (room .0) in
+                        let so = leb-true _ _ (room .1) in
+                        let to = leb-true _ _ (room .2) in
+                        accepted n (rowsOf (tagsOf v m)) rd (late-none v m (roomOf r s t) (rowsOf (tagsOf v m)) rd none-early (sym x ∙ y))
+                        (k ∙ rw (segments-are ∙ sym (placed-length v m), o, payments-are ∙ sym (seq-tags v m (rd .placement))))
+                        (rows-over v m (z .segments) r r1 s s1 done segments-are ro so)
+                        (starts-over v m (z .segments) r r1 s s1 done segments-are ro so small)
+                        (totals-over v m (z .orders) t t1 full (rd .placement) o to)
+
+                    pub check-done : Late v m (z .segments) (z .orders) l → l ≡ fault.None → Reported v m r r1 s s1 t t1 (Accepted (record { segments = z .segments; orders = z .orders; payments = z .payments }))
+                    check-done a y = done-by a y (record { segments = z .segments; orders = z .orders; payments = z .payments }) refl

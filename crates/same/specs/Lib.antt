@@ -1,0 +1,4 @@
+pub mod PlacingLaws
+pub mod Same
+pub mod SameLaws
+pub mod SameTheorem

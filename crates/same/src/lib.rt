@@ -1,0 +1,1 @@
+// What reports of alike messages share: theorems alone.

@@ -1,0 +1,61 @@
+// The trailer: UNT's count is the number of segments, and its reference is UNH's: 17 and 18.
+ghost use mathlib.Core.Path.{_≡_};
+ghost use Rattle.values.specs.Values.{sameList, valueIn};
+ghost use Rattle.message.specs.Segs.{segAt};
+ghost use Rattle.trailer.specs.Steps.{trailerStart, trailerStep, taken};
+use faults::First;
+use service::Service;
+
+pub struct Trailer {
+    pub first17: First,
+    pub first18: First,
+}
+
+// The row of the UNT.
+const UNT: usize = 112;
+
+pub fn start() -> Trailer
+    ensures { λ r. ⌜ r ≡ trailerStart ⌝ }
+{
+    Trailer {
+        first17: First::None,
+        first18: First::None,
+    }
+}
+
+// Whether the reference of the UNT at `at` is that of the UNH, which begins the message.
+fn same_reference(m: &[u8], v: Service, at: usize) -> bool
+    ensures { λ r. ⌜ r ≡ sameList (valueIn v at (now (m .entry)) 2 0) (valueIn v 0 (now (m .entry)) 1 0) ⌝ }
+{
+    let p = parts::component(m, at, v, 2, 0);
+    let q = parts::component(m, 0, v, 1, 0);
+    values::same_value(m, p, q, v)
+}
+
+fn held(st: Trailer, m: &[u8], v: Service, at: usize, nth: usize, segments: u64) -> Trailer
+    ensures { λ r. ⌜ r ≡ taken segments (valueIn v 0 (now (m .entry)) 1 0) st (valueIn v at (now (m .entry))) nth ⌝ }
+{
+    let f17 = st.first17;
+    let f18 = st.first18;
+    let first17 = faults::keep(f17, values::number_is(m, at, v, 1, 0, segments), nth);
+    let first18 = faults::keep(f18, same_reference(m, v, at), nth);
+    Trailer { first17, first18 }
+}
+
+// One segment, the nth, of a message with so many segments.
+pub fn step(
+    st: Trailer,
+    m: &[u8],
+    v: Service,
+    at: usize,
+    nth: usize,
+    row: usize,
+    segments: u64,
+) -> Trailer
+    ensures { λ r. ⌜ r ≡ trailerStep segments (valueIn v 0 (now (m .entry)) 1 0) st (segAt v (now (m .entry)) nth row at) ⌝ }
+{
+    if row == UNT {
+        return held(st, m, v, at, nth, segments);
+    }
+    st
+}
