@@ -10,7 +10,7 @@
 #include <time.h>
 #include "../include/twineherald.h"
 
-enum { LISTS = 9999, ROUNDS = 7, STACK = 1 << 20, MOST_STACK = 4096 };
+enum { LISTS = 9999, ROUNDS = 7, STACK = 1 << 20, MOST_STACK = 4608 };
 
 typedef struct {
     const uint8_t *bytes;

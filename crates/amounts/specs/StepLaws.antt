@@ -12,11 +12,12 @@ use Rattle.parts.specs.Parts.{lex, valueOf}
 use Rattle.values.specs.declared.Amount.{Amount}
 use Rattle.values.specs.declared.Amount.the-variants.{Of, Not}
 use Rattle.values.specs.Values.{valueIn, valueFrom, codeFrom, codeOf, amountOf, sameList, isCapitals}
+use Rattle.values.specs.TextLaws.{says-code}
 use Rattle.faults.specs.declared.First.{First}
 use Rattle.faults.specs.declared.First.the-variants as first
 use Rattle.faults.specs.Firsts.{lesser, placeUnless}
 use Rattle.faults.specs.FirstsLaws.{lesser-last}
-use Rattle.message.specs.Text.{text, letters, says}
+use Rattle.values.specs.Text.{text, says}
 use Rattle.message.specs.Segs.{segAt}
 use Rattle.message.specs.Rules.{isOf, worth, isEmpty, capitals, firstHolds, secondHolds, isBase, basesHold, cuxHolds}
 use Rattle.message.specs.Run.{testStep}
@@ -24,7 +25,7 @@ use Rattle.message.specs.CountLaws.{someStep}
 use Rattle.message.specs.ValueLaws.{most, empty-code}
 use Rattle.amounts.specs.declared.Order.{Order}
 use Rattle.amounts.specs.declared.Amounts.{Amounts}
-use Rattle.amounts.specs.Steps.{addStep, heldInner, rule23, rule24, rule25, rule26, comesBy, heldStep, firstStep, sumsStep, endedBy, orderOf, noOrder, amountsOf, sumsStart, heldOf, sumsOf, sumsClose, orderEnded, withForm, exchanged, paid, baseBy, basesBy}
+use Rattle.amounts.specs.Steps.{addStep, heldInner, rule23, rule24, rule25, rule26, comesBy, heldStep, firstStep, sumsStep, endedBy, orderOf, noOrder, amountsOf, sumsStart, heldOf, sumsOf, sumsClose, ownAt, orderEnded, amountsClose, withForm, exchanged, paid, baseBy, basesBy}
 
 -- ---- values
 module _ (a : Amount) (p : ℕ) (v : Service) (m l : List ℕ) (e : valueOf (lex v false (drop p m)) ≡ l) (c : a ≡ amountOf (valueFrom v p m)) where
@@ -49,25 +50,25 @@ same-by v m k l p q r a b c = c ∙ rw (a, b)
 module _ (x : ℕ) (l : List ℕ) (e : x ≡ codeOf l) where
   pub exchange-by : eqb x 79159 ≡ says l "57"
   unfolding text codeFrom
-  exchange-by = rw e
+  exchange-by = rw (e, says-code l "57" refl)
 
   pub qualifier-by : (r : Bool) → r ≡ eqb x 313 || eqb x 79159 → r ≡ says l "9" || says l "57"
   unfolding text codeFrom
-  qualifier-by r q = q ∙ rw e
+  qualifier-by r q = q ∙ rw (e, says-code l "9" refl, says-code l "57" refl)
 
   pub currency-by : (r : Bool) → r ≡ isCapitals x → r ≡ capitals l
   currency-by r q = q ∙ rw e
 
   pub own-by : (value : ℕ → ℕ → List ℕ) (money : List ℕ) → l ≡ value 1 0 → (t r : Bool) → t ≡ sameList (value 1 1) money → r ≡ eqb x 306 && t → r ≡ firstHolds money value
   unfolding firstHolds text codeFrom
-  own-by value money f t r p q = q ∙ rw (p, e, f)
+  own-by value money f t r p q = q ∙ rw (p, e, f, says-code (value 1 0) "2" refl)
 
 pub own-named : (x : ℕ) (value : ℕ → ℕ → List ℕ) (money : List ℕ) (t r : Bool) → x ≡ codeOf (value 1 0) → t ≡ sameList (value 1 1) money → r ≡ eqb x 306 && t → r ≡ firstHolds money value
 own-named x value money t r e p q = own-by x (value 1 0) e value money refl t r p q
 
 pub other-named : (x y : ℕ) (value : ℕ → ℕ → List ℕ) (money : List ℕ) (c t n u r : Bool) → x ≡ codeOf (value 2 0) → y ≡ codeOf (value 2 1) → c ≡ isCapitals y → t ≡ sameList (value 2 1) money → n ≡ not t → u ≡ eqb x 307 && c → r ≡ u && n → r ≡ secondHolds money value
 unfolding secondHolds text codeFrom
-other-named x y value money c t n u r a b d e f g h = h ∙ rw (g, f, d, e, a, b)
+other-named x y value money c t n u r a b d e f g h = h ∙ rw (g, f, d, e, a, b, says-code (value 2 0) "3" refl)
 
 pub base-by : (x : ℕ) (u r : Bool) → u ≡ eqb x 305 || eqb x 20000816 → r ≡ u || eqb x 5120208944 → r ≡ baseBy x
 unfolding baseBy text codeFrom
@@ -78,9 +79,13 @@ unfolding basesBy
 bases-by x y z n s f bx b o t r h1 h2 h3 h4 h5 h6 h7 h8 = h8 ∙ rw (h1, h7, h6, h3, h5, h2, h4)
 
 -- bases by their codes
+base-values : (l : List ℕ) → isBase l ≡ baseBy (codeOf l)
+unfolding isBase baseBy text codeFrom
+base-values l = rw (says-code l "1" refl, says-code l "100" refl, says-code l "1000" refl)
+
 bases-values : (a b c : List ℕ) → basesBy (codeOf a) (codeOf b) (codeOf c) ≡ basesHold a b c
-unfolding basesBy basesHold baseBy isBase
-bases-values a b c = rw (empty-code a, empty-code b, empty-code c)
+unfolding basesBy basesHold
+bases-values a b c = rw (base-values a, base-values b, empty-code a, empty-code b, empty-code c)
 
 pub cux-by : (value : ℕ → ℕ → List ℕ) (money : List ℕ) (x y z : ℕ) (f s b n r : Bool) → f ≡ firstHolds money value → s ≡ secondHolds money value → x ≡ codeOf (value 1 3) → y ≡ codeOf (value 2 3) → z ≡ codeOf (value 3 0) → b ≡ basesBy x y z → n ≡ f && s → r ≡ n && b → r ≡ cuxHolds money value
 cux-by value money x y z f s b n r h1 h2 h3 h4 h5 h6 h7 h8 = h8 ∙ rw (h7, h6, h1, h2, h3, h4, h5, bases-values (value 1 3) (value 2 3) (value 3 0))
@@ -110,8 +115,11 @@ module _ (v : Service) (m : List ℕ) (st : Amounts) (o : Order) where
       → amountsOf o (st .first22) f23 f24 f25 f26 ≡ orderEnded v m st o
   ended-live e a b c w f23 f24 f25 f26 h1 h2 h3 h4 h5 h6 h7 h8 = rw (e, h2, h4, h6, h8, h1, h3, h5, h7)
 
-pub close-by : (v : Service) (m : List ℕ) (st : Amounts) (o : Order) (r : Amounts) → o ≡ noOrder → r ≡ orderEnded v m st o → sumsOf v m r ≡ sumsClose v m (sumsOf v m st)
+pub close-by : (v : Service) (m : List ℕ) (st : Amounts) (o : Order) (r : Amounts) → o ≡ noOrder → r ≡ orderEnded v m st o → r ≡ amountsClose v m st
 close-by v m st o r e q = rw (q, e)
+
+pub close-sums : (v : Service) (m : List ℕ) (st r : Amounts) → r ≡ amountsClose v m st → sumsOf v m r ≡ sumsClose v m (sumsOf v m st)
+close-sums v m st r e = rw e
 
 pub moa-by : (v : Service) (m : List ℕ) (st u r : Amounts) (o : Order) (t : Bool) (n : ℕ) → u ≡ withForm st t n → r ≡ orderEnded v m u o → r ≡ orderEnded v m (withForm st t n) o
 moa-by v m st u r o t n p q = q ∙ rw p
@@ -136,18 +144,38 @@ module _ (v : Service) (m : List ℕ) (st : Amounts) (nth row i : ℕ) (r : Amou
   unfolding sumsStep heldStep firstStep testStep
   step-lin e o p q = rw (q, p, e)
 
+  pub at-lin : row ≡ 17 → (o : Order) → o ≡ noOrder → r ≡ orderEnded v m st o → r .order .at ≡ ownAt (st .order .at) row i
+  at-lin e o p q = rw (q, p, e)
+
   pub step-moa : row ≡ 23 → r ≡ orderEnded v m (withForm st (isOf (amountOf (valueIn v i m 1 1))) nth) (orderOf true nth i false 0) → sumsOf v m r ≡ sumsStep (segAt v m 0 23 0) (sumsOf v m st) (segAt v m nth row i)
   unfolding sumsStep heldStep firstStep testStep
   step-moa e q = rw (q, e)
+
+  pub at-moa : row ≡ 23 → r ≡ orderEnded v m (withForm st (isOf (amountOf (valueIn v i m 1 1))) nth) (orderOf true nth i false 0) → r .order .at ≡ ownAt (st .order .at) row i
+  at-moa e q = rw (q, e)
 
   pub step-cux : row ≡ 24 → r ≡ exchanged v m st i nth → sumsOf v m r ≡ sumsStep (segAt v m 0 23 0) (sumsOf v m st) (segAt v m nth row i)
   unfolding sumsStep heldStep firstStep testStep heldInner addStep someStep
   step-cux e q = rw (q, e, lesser-last (st .first23), lesser-last (st .first24), lesser-last (st .first26))
 
+  pub at-cux : row ≡ 24 → r ≡ exchanged v m st i nth → r .order .at ≡ ownAt (st .order .at) row i
+  at-cux e q = rw (q, e)
+
   pub step-paid : row ≡ 51 → r ≡ paid v m (withForm st (isOf (amountOf (valueIn v i m 1 1))) nth) i nth → sumsOf v m r ≡ sumsStep (segAt v m 0 23 0) (sumsOf v m st) (segAt v m nth row i)
   unfolding sumsStep heldStep firstStep testStep heldInner addStep someStep
   step-paid e q = rw (q, e, lesser-last (st .first25), lesser-last (st .first26))
 
+  pub at-paid : row ≡ 51 → r ≡ paid v m (withForm st (isOf (amountOf (valueIn v i m 1 1))) nth) i nth → r .order .at ≡ ownAt (st .order .at) row i
+  at-paid e q = rw (q, e)
+
+pub at-other : (st : Amounts) (row i : ℕ) → (row ≡ 17 → ⊥) → (row ≡ 23 → ⊥) → st .order .at ≡ ownAt (st .order .at) row i
+at-other st row i a b = rw (ne-eqb row 17 a, ne-eqb row 23 b)
+
 pub step-other : (v : Service) (m : List ℕ) (st : Amounts) (nth row i : ℕ) → (row ≡ 17 → ⊥) → (row ≡ 23 → ⊥) → (row ≡ 24 → ⊥) → (row ≡ 51 → ⊥) → sumsOf v m st ≡ sumsStep (segAt v m 0 23 0) (sumsOf v m st) (segAt v m nth row i)
 unfolding sumsStep heldStep firstStep testStep heldInner addStep someStep
 step-other v m st nth row i a b c d = rw (ne-eqb row 17 a, ne-eqb row 23 b, ne-eqb row 24 c, ne-eqb row 51 d, lesser-last (st .first23), lesser-last (st .first24), lesser-last (st .first25), lesser-last (st .first26))
+
+-- ---- no second answer: where the MOA begins, and what it and the state say
+pub one-sums : (v : Service) (m : List ℕ) (x y : Amounts) → sumsOf v m x ≡ sumsOf v m y → x .order .at ≡ y .order .at → x ≡ y
+one-sums v m x y p q =
+    λ k. amountsOf (orderOf (p k .order .live) (p k .order .own .nth) (q k) (p k .order .cux) (p k .order .sum)) (p k .first22) (p k .first23) (p k .first24) (p k .first25) (p k .first26)

@@ -5,11 +5,11 @@ use mathlib.Core.Bool.{Bool, true, false, not, _&&_, _||_}
 use lib.Dec.{eqb}
 use Rattle.segments.specs.Classes.{if}
 use Rattle.service.specs.declared.Service.{Service}
-use Rattle.values.specs.Values.{amountOf, sameList, valueIn}
+use Rattle.values.specs.Values.{amountOf, sameList, valueIn, letters}
 use Rattle.faults.specs.declared.First.{First}
 use Rattle.faults.specs.declared.First.the-variants as first
 use Rattle.faults.specs.Firsts.{lesser, placeUnless}
-use Rattle.message.specs.Text.{letters, says}
+use Rattle.values.specs.Text.{says}
 use Rattle.message.specs.Segs.{Seg, segAt, LIN, MOA5, CUX5, MOA11, is}
 use Rattle.message.specs.Rules.{isOf, worth, capitals, qualifier, amount, currency, cuxHolds}
 use Rattle.message.specs.Run.{testStep, Level, levelStep}
@@ -129,11 +129,19 @@ sumsOf v m st = record { order = heldOf v m (st .order); first22 = st .first22; 
 abbrev pub sumsClose : Service → List ℕ → Sums → Sums
 sumsClose v m st = endedBy st (heldOf v m noOrder)
 
+-- where the order's own MOA begins after a segment of this row at i: there, if it is that MOA; nowhere yet after a LIN; else where it did
+abbrev pub ownAt : ℕ → ℕ → ℕ → ℕ
+ownAt was row i = if (eqb row 23) i (if (eqb row 17) 0 was)
+
 -- what the code's parts make of a state
 abbrev pub orderEnded : Service → List ℕ → Amounts → Order → Amounts
 orderEnded v m st o =
     amountsOf o (st .first22) (lesser (st .first23) (comesBy rule23 (heldOf v m (st .order)))) (lesser (st .first24) (comesBy rule24 (heldOf v m (st .order))))
     (lesser (st .first25) (comesBy rule25 (heldOf v m (st .order)))) (lesser (st .first26) (comesBy rule26 (heldOf v m (st .order))))
+
+-- the order at hand ended, and none after it
+abbrev pub amountsClose : Service → List ℕ → Amounts → Amounts
+amountsClose v m st = orderEnded v m st noOrder
 
 abbrev pub withForm : Amounts → Bool → ℕ → Amounts
 withForm st t n = amountsOf (st .order) (lesser (st .first22) (placeUnless t n)) (st .first23) (st .first24) (st .first25) (st .first26)

@@ -3,11 +3,11 @@ ghost use Prim.Native.Nat.{_+_, min};
 ghost use mathlib.Core.Path.{_≡_};
 ghost use mathlib.Core.Bool.{true, false, not, _&&_, _||_};
 ghost use Rattle.values.specs.Values.{amountOf, sameList, valueIn};
-ghost use Rattle.message.specs.Text.{says};
+ghost use Rattle.values.specs.Text.{says};
 ghost use Rattle.message.specs.Segs.{segAt};
 ghost use Rattle.message.specs.Rules.{isOf, worth, capitals, firstHolds, secondHolds, cuxHolds};
 ghost use Rattle.message.specs.ValueLaws.{most};
-ghost use Rattle.amounts.specs.Steps.{orderOf, sumsOf, sumsStart, sumsStep, sumsClose, baseBy, basesBy, noOrder, orderEnded, withForm, exchanged, paid};
+ghost use Rattle.amounts.specs.Steps.{orderOf, sumsOf, sumsStart, sumsStep, amountsClose, ownAt, baseBy, basesBy, noOrder, orderEnded, withForm, exchanged, paid};
 use faults::First;
 use service::Service;
 use values::Amount;
@@ -235,7 +235,7 @@ fn next_order(st: Amounts, m: &[u8], v: Service, order: Order) -> Amounts
 
 // The first places, with the order at hand ended.
 pub fn close(st: Amounts, m: &[u8], v: Service) -> Amounts
-    ensures { λ r. ⌜ sumsOf v (now (m .entry)) r ≡ sumsClose v (now (m .entry)) (sumsOf v (now (m .entry)) st) ⌝ }
+    ensures { λ r. ⌜ r ≡ amountsClose v (now (m .entry)) st ⌝ }
 {
     next_order(st, m, v, no_order())
 }
@@ -354,6 +354,7 @@ fn payment_moa(st: Amounts, m: &[u8], v: Service, at: usize, nth: usize) -> Amou
 // One segment, the nth.
 pub fn step(st: Amounts, m: &[u8], v: Service, at: usize, nth: usize, row: usize) -> Amounts
     ensures { λ r. ⌜ sumsOf v (now (m .entry)) r ≡ sumsStep (segAt v (now (m .entry)) 0 23 0) (sumsOf v (now (m .entry)) st) (segAt v (now (m .entry)) nth row at) ⌝ }
+    ensures { λ r. ⌜ r .order .at ≡ ownAt (st .order .at) row at ⌝ }
 {
     if row == chart::LIN {
         return next_order(st, m, v, no_order());

@@ -2,44 +2,47 @@
 use mathlib.Core.Path.{_≡_, refl, subst}
 use mathlib.Core.Bool.{true}
 use mathlib.Core.List.{List, [], _∷_}
-use Prim.Native.Nat.{ℕ, _+_}
+use Prim.Native.Nat.{ℕ}
 use Rattle.service.specs.declared.Service.{Service}
-use Rattle.segments.specs.Bytes.{classOf, endFrom, pastBreaks}
-use Rattle.segments.specs.Segments.{segmentAt}
-use Rattle.chart.specs.Chart.{Reading, FailsAt, FirstMisfit}
+use Rattle.segments.specs.Classes.{classOf}
+use Rattle.chart.specs.Chart.{Reading, FirstMisfit}
 use Rattle.chart.specs.Machine.{only, run, step, stepRows, free, freeRows, placed, stuck, choose, takes, owed, rowsBy}
-use Rattle.chart.specs.Table.{UNH, BGM, DTM, LIN, RFF, MOA, FII, SEQ, CNT, UNT, chart, table, rowOver, inside}
-use Rattle.chart.specs.Columns.{tagOf, parentOf, endOf, firstOf}
-use Rattle.chart.specs.Next.{nextOf, chain, chainFrom, findIn, nextRow, rowsOf}
-use Rattle.chart.specs.Tags.{startsIn, startsFrom, startsOf}
+use Rattle.table.specs.Entries.{linesFrom, within, text}
+use Rattle.chart.specs.Codes.{UNH, BGM, DTM, LIN, RFF, MOA, FII, SEQ, CNT, UNT}
+use Rattle.chart.specs.Paymul.{PAYMUL, table, chart, rowsOf}
+use Rattle.chart.specs.Table.{chartOf, rowOver, inside}
+use Rattle.chart.specs.Columns.{parentOf, firstOf}
+use Rattle.chart.specs.Next.{nextOf, chainFrom, findIn, nextRow}
+use Rattle.segments.specs.SegmentList.{pieces, startsFrom, startsOf}
 use Rattle.chart.proofs.Plain.{placed-one, stuck-fails}
 use Rattle.chart.proofs.Theorems.{closed-fails}
-use Rattle.chart.proofs.Whole.{chart-fine, chart-closing, reading-of}
+use Rattle.chart.proofs.Whole.{fine, reading-of}
+use Rattle.chart.proofs.Paymul.{paymul-sound}
 
 -- ---- one order of one payment, with no segment that may be left out
 abbrev least : List ℕ
 least = UNH ∷ BGM ∷ DTM ∷ LIN ∷ DTM ∷ RFF ∷ MOA ∷ FII ∷ SEQ ∷ MOA ∷ RFF ∷ CNT ∷ UNT ∷ []
 
 least-run : run least (only chart) 0 ≡ placed
-unfolding chart table rowOver inside run step stepRows free freeRows choose takes owed
+unfolding PAYMUL table linesFrom within text chartOf rowOver inside run step stepRows free freeRows choose takes owed
 least-run = refl
 
 least-rows : rowsOf least ≡ 1 ∷ 2 ∷ 3 ∷ 17 ∷ 18 ∷ 19 ∷ 23 ∷ 28 ∷ 50 ∷ 51 ∷ 53 ∷ 108 ∷ 112 ∷ []
-unfolding rowsBy nextRow chain chainFrom findIn nextOf tagOf parentOf table firstOf endOf
+unfolding PAYMUL table linesFrom within text rowsBy nextRow chainFrom findIn nextOf parentOf firstOf
 least-rows = refl
 
 pub least-reading : Reading chart least (1 ∷ 2 ∷ 3 ∷ 17 ∷ 18 ∷ 19 ∷ 23 ∷ 28 ∷ 50 ∷ 51 ∷ 53 ∷ 108 ∷ 112 ∷ [])
 least-reading =
-    let p = placed-one chart least chart-fine least-run in
-    subst (λ (l : List ℕ). Reading chart least l) least-rows (reading-of least (p .0) (p .1))
+    let p = placed-one chart least (fine PAYMUL paymul-sound) least-run in
+    subst (λ (l : List ℕ). Reading chart least l) least-rows (reading-of PAYMUL paymul-sound least (p .0) (p .1))
 
 -- ---- UNH and UNT alone: no message begins so, and the misfit is the second segment
 short-run : run (UNH ∷ UNT ∷ []) (only chart) 0 ≡ stuck 1
-unfolding chart table rowOver inside run step stepRows free freeRows choose takes owed
+unfolding PAYMUL table linesFrom within text chartOf rowOver inside run step stepRows free freeRows choose takes owed
 short-run = refl
 
 pub short-misfit : FirstMisfit chart (UNH ∷ UNT ∷ []) 1
-short-misfit = closed-fails chart UNT chart-closing (UNH ∷ UNT ∷ []) (UNH ∷ []) refl 1 (stuck-fails chart (UNH ∷ UNT ∷ []) 1 chart-fine short-run)
+short-misfit = closed-fails chart UNT (paymul-sound .closed) (UNH ∷ UNT ∷ []) (UNH ∷ []) refl 1 (stuck-fails chart (UNH ∷ UNT ∷ []) 1 (fine PAYMUL paymul-sound) short-run)
 
 -- ---- its bytes, UNH+1+PAYMUL:D:96A:UN'UNT+2+1'
 abbrev plain : Service
@@ -51,5 +54,5 @@ short =
     85 ∷ 78 ∷ 84 ∷ 43 ∷ 50 ∷ 43 ∷ 49 ∷ 39 ∷ []
 
 pub short-starts : startsOf plain short ≡ 0 ∷ 22 ∷ []
-unfolding startsIn startsFrom segmentAt endFrom classOf pastBreaks
+unfolding startsFrom pieces classOf
 short-starts = refl

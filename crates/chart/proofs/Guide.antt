@@ -103,11 +103,6 @@ module _ (G : ℕ → ℕ → ℕ) where
   rows-next p (t ∷ ts) zero h = rows-first (G p t) ts (omega arith)
   rows-next p (t ∷ ts) (suc k) h = rows-next (G p t) ts k (omega arith)
 
-  pub rows-append : (p : ℕ) (ts us : List ℕ) → (q : ℕ) × (rowsBy G p (ts ++ us) ≡ rowsBy G p ts ++ rowsBy G q us)
-  unfolding rowsBy
-  rows-append p [] us = (p, refl)
-  rows-append p (t ∷ ts) us = let r = rows-append (G p t) ts us in (r .0, ap (λ (l : List ℕ). G p t ∷ l) (r .1))
-
   pub rows-after : (p : ℕ) (ts : List ℕ) (i : ℕ) → i < length ts → rowAfter G p ts (suc i) ≡ getD (rowsBy G p ts) i 0
   unfolding rowAfter
   rows-after p ts zero h = sym (rows-first p ts h)

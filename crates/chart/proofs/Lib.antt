@@ -1,8 +1,9 @@
 pub mod Answers
 pub mod Cases
 pub mod Guide
-pub mod Nest
 pub mod Lines
+pub mod Nest
+pub mod Paymul
 pub mod Plain
 pub mod Stream
 pub mod Theorems

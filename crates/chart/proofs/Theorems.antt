@@ -12,7 +12,7 @@ use lib.ListN.{length, take, drop, take-append-drop}
 use lib.Seq.{take-add}
 use borrow.Author.Tests.{ltb-true, eq-eqb}
 use Rattle.chart.specs.Chart.{Rows, none, row, Placement, no-rows, row-then, Occurrences, no-more, one-then, Before, shorter, smaller, further, Reading, Unplaced, Begins, FirstMisfit, FailsAt}
-use Rattle.chart.specs.Machine.{only, Sound, labels, lacking, closing, isNone, and, or, Frames, Ends, Step, at, fail, step, placed, stuck, run}
+use Rattle.chart.specs.Machine.{only, Decided, labels, lacking, closing, isNone, and, or, Frames, Ends, Step, at, fail, step, placed, stuck, run}
 use Rattle.chart.proofs.Theory.{Fine, step-on, step-fail, step-fine, ends-free, and-left, and-right, nots, T-true, true-T, Said, all, part, said}
 use Rattle.chart.proofs.Plain.{placement-ends, ends-placement, stuck-fails}
 
@@ -29,15 +29,15 @@ ends-one : (ts : List ℕ) (K : Frames) (ns ms : List ℕ) → Fine K → Ends K
 ends-one [] K ns ms f g h = ends-free K ns g .1 ∙ sym (ends-free K ms h .1)
 ends-one (t ∷ ts) K ns ms f g h = ends-step t ts K ns ms f g h (ends-one ts) (step K t) refl
 
-pub one-placement : (rows : Rows) → Sound rows → (ts ns ms : List ℕ) → Placement rows ts ns → Placement rows ts ms → ns ≡ ms
+pub one-placement : (rows : Rows) → Decided rows → (ts ns ms : List ℕ) → Placement rows ts ns → Placement rows ts ms → ns ≡ ms
 one-placement rows f ts ns ms g h = ends-one ts (only rows) ns ms f (placement-ends g) (placement-ends h)
 
 -- so it is the reading
-pub reading : (rows : Rows) → Sound rows → (ts ns : List ℕ) → Placement rows ts ns → Reading rows ts ns
+pub reading : (rows : Rows) → Decided rows → (ts ns : List ℕ) → Placement rows ts ns → Reading rows ts ns
 reading rows f ts ns h = record { placement = h; first = λ ms g. inl (one-placement rows f ts ms ns g h) }
 
 -- ---- A PLACEMENT, OR THE PLACE WHERE THERE IS NONE
-pub placed-or-fails : (rows : Rows) → Sound rows → (ts : List ℕ) → ((ns : List ℕ) × Placement rows ts ns) ⊎ ((j : ℕ) × FailsAt rows ts j)
+pub placed-or-fails : (rows : Rows) → Decided rows → (ts : List ℕ) → ((ns : List ℕ) × Placement rows ts ns) ⊎ ((j : ℕ) × FailsAt rows ts j)
 placed-or-fails rows f ts = go (said ts (only rows) 0 f)
   where
     go : Said (only rows) ts 0 → ((ns : List ℕ) × Placement rows ts ns) ⊎ ((j : ℕ) × FailsAt rows ts j)
@@ -45,7 +45,7 @@ placed-or-fails rows f ts = go (said ts (only rows) 0 f)
     go (part j s r) = inr (0 + j, stuck-fails rows ts (0 + j) f r)
 
 -- with no placement: a first misfit, or the whole begins a message
-pub misfit-or-begins : (rows : Rows) → Sound rows → (ts : List ℕ) → Unplaced rows ts → ((j : ℕ) × FirstMisfit rows ts j) ⊎ Begins rows ts
+pub misfit-or-begins : (rows : Rows) → Decided rows → (ts : List ℕ) → Unplaced rows ts → ((j : ℕ) × FirstMisfit rows ts j) ⊎ Begins rows ts
 misfit-or-begins rows f ts n = go (placed-or-fails rows f ts)
   where
     at-place : (j : ℕ) → FirstMisfit rows ts j ⊎ ((j ≡ length ts) × Begins rows ts) → ((j : ℕ) × FirstMisfit rows ts j) ⊎ Begins rows ts
@@ -233,7 +233,7 @@ closed-fails rows u h ts us e j f = go (f .place)
     go (inl x) = x
     go (inr y) = let z = closed-placed rows u h ts us e (y .1) in absurd (f .unplaced (z .0) (z .1))
 
-pub closed-misfit : (rows : Rows) → Sound rows → (u : ℕ) → T (closing u rows) → (ts us : List ℕ) → ts ≡ us ++ (u ∷ []) → Unplaced rows ts → (j : ℕ) × FirstMisfit rows ts j
+pub closed-misfit : (rows : Rows) → Decided rows → (u : ℕ) → T (closing u rows) → (ts us : List ℕ) → ts ≡ us ++ (u ∷ []) → Unplaced rows ts → (j : ℕ) × FirstMisfit rows ts j
 closed-misfit rows f u h ts us e n = go (placed-or-fails rows f ts)
   where
     go : ((ns : List ℕ) × Placement rows ts ns) ⊎ ((j : ℕ) × FailsAt rows ts j) → (j : ℕ) × FirstMisfit rows ts j

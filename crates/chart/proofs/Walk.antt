@@ -6,7 +6,7 @@ use Prim.Native.Nat.{ℕ, zero, suc, _+_, _-_, _<_, _≤_}
 use native.Mathlib.Decide.{decLt}
 use native.Mathlib.Omega.{arith}
 use native.Mathlib.Numerals.{add-one}
-use lib.Dec.{T, ltb, eqb}
+use lib.Dec.{ltb, eqb}
 use lib.ListN.{length, getD, drop, drop-of-length-le}
 use lib.Seq.{drop-cons}
 use borrow.Author.Tests.{ltb-true, ltb-false, lt-ltb, le-ltb, eq-eqb, ne-eqb}
@@ -15,13 +15,13 @@ use Rattle.chart.specs.declared.Cursor.{Cursor}
 use Rattle.chart.specs.declared.Went.{Went}
 use Rattle.chart.specs.declared.Went.the-variants.{To, Stuck}
 use Rattle.chart.specs.Chart.{Rows, none, row}
-use Rattle.chart.specs.Machine.{Frames, done, frame, Step, Out, placed, stuck, pick, and, takes, owed, stepRows, step, freeRows, free, run}
-use Rattle.chart.specs.Table.{size}
+use Rattle.chart.specs.Machine.{Frames, frame, placed, stuck, pick, takes, owed, stepRows, step, freeRows, free, run}
+use Rattle.chart.specs.Table.{Table}
 use Rattle.chart.specs.Columns.{tagOf, endOf, reqOf, mostOf, firstOf, rowAt, Is, RowIs, Some}
 use Rattle.chart.specs.Tags.{tagsOf}
-use Rattle.chart.specs.Cursor.{CursorIs, Stepped, Stands}
+use Rattle.chart.specs.Cursor.{Stepped, Stands}
 use Rattle.chart.specs.CursorLaws.{stands-next, stands-lt, stands-ge, stands-tag, stands-none, stands-at}
-use Rattle.chart.specs.Placing.{takesAt, RowsTo, RowsNo, RowTo, RowPast, RowNo, RowsPass, RowsStop, RowsDone, RowPass, RowStop, RowDone}
+use Rattle.chart.specs.Placing.{takesAt, RowTo, RowsPass, RowsStop, RowsDone, RowPass, RowStop, RowDone}
 use Rattle.chart.proofs.Theory.{step-place, step-owe, step-pass, run-at, run-fail, run-short, free-owe, free-pass, and-left, and-right, T-true, true-T}
 use Rattle.chart.proofs.Nest.{Head, head, ended, kids-is, tag-some}
 
@@ -54,25 +54,25 @@ module _ (ts : List ℕ) (i n tag most : ℕ) where
   at-lt e = ltb-true i (length ts) (true-T _ (and-left (ltb i (length ts)) _ (T-true e)))
 
 -- .. and at a cursor: past the last segment its tag is that of no row
-takes-at : (v : Service) (m : List ℕ) (i : ℕ) (c : Cursor) → Stands v m i c → (n r tag most : ℕ) → r < size → tag ≡ tagOf r
+takes-at : (t : Table) (v : Service) (m : List ℕ) (i : ℕ) (c : Cursor) → Stands v m i c → (n r tag most : ℕ) → tag ≡ tagOf t r
     → takesAt (tagsOf v m) i n tag most ≡ takes (c .tag) n tag most
-takes-at v m i c s n r tag most small et = go (decLt (c .at) (length m))
+takes-at t v m i c s n r tag most et = go (decLt (c .at) (length m))
   where
     go : Dec (c .at < length m) → takesAt (tagsOf v m) i n tag most ≡ takes (c .tag) n tag most
-    go (yes h) = at-here (tagsOf v m) i n tag most (stands-lt v m i c s h) ∙ ap (λ (t : ℕ). takes t n tag most) (stands-tag v m i c s h)
+    go (yes h) = at-here (tagsOf v m) i n tag most (stands-lt v m i c s h) ∙ ap (λ (x : ℕ). takes x n tag most) (stands-tag v m i c s h)
     go (no g) =
         let h : length m ≤ c .at = omega arith in
         at-past (tagsOf v m) i n tag most (stands-ge v m i c s h)
-        ∙ takes-other (c .tag) tag n most (λ e. tag-some r small (sym et ∙ sym e ∙ stands-none v m i c s h))
+        ∙ takes-other (c .tag) tag n most (λ e. tag-some t r (sym et ∙ sym e ∙ stands-none v m i c s h))
 
-takes-left : (v : Service) (m : List ℕ) (i : ℕ) (c : Cursor) → Stands v m i c → (n r tag most : ℕ) → r < size → tag ≡ tagOf r
+takes-left : (t : Table) (v : Service) (m : List ℕ) (i : ℕ) (c : Cursor) → Stands v m i c → (n r tag most : ℕ) → tag ≡ tagOf t r
     → takes (c .tag) n tag most ≡ true → c .at < length m
-takes-left v m i c s n r tag most small et e = go (decLt (c .at) (length m))
+takes-left t v m i c s n r tag most et e = go (decLt (c .at) (length m))
   where
     go : Dec (c .at < length m) → c .at < length m
     go (yes h) = h
     go (no g) =
-        let lt = at-lt (tagsOf v m) i n tag most (takes-at v m i c s n r tag most small et ∙ e) in
+        let lt = at-lt (tagsOf v m) i n tag most (takes-at t v m i c s n r tag most et ∙ e) in
         let ge = stands-ge v m i c s (omega arith) in
         absurd (omega arith)
 
@@ -126,46 +126,61 @@ module _ (ts : List ℕ) (i c num tag : ℕ) (req : Bool) (most : ℕ) (kids res
 
 -- ---- THE LOOP OVER A ROW'S OCCURRENCES
 -- what has been placed of the row so far
-pub record RowInv (v : Service) (m : List ℕ) (r : ℕ) (from : Cursor) (n : ℕ) (c : Cursor) : Type 0 where
-  pub so-far : (i : ℕ) → Stands v m i from → (k : ℕ) × Stands v m k c × RowTo r (tagsOf v m) i n k
+pub record RowInv (t : Table) (v : Service) (m : List ℕ) (r : ℕ) (from : Cursor) (n : ℕ) (c : Cursor) : Type 0 where
+  pub so-far : (i : ℕ) → Stands v m i from → (k : ℕ) × Stands v m k c × RowTo t r (tagsOf v m) i n k
 
-pub row-start : (v : Service) (m : List ℕ) (r : ℕ) (from : Cursor) → RowInv v m r from 0 from
-row-start v m r from = record { so-far = λ i s. (i, s, λ kids rest is K. refl) }
+pub row-start : (t : Table) (v : Service) (m : List ℕ) (r : ℕ) (from : Cursor) → RowInv t v m r from 0 from
+row-start t v m r from = record { so-far = λ i s. (i, s, λ kids rest is K. refl) }
 
-module _ (v : Service) (m : List ℕ) (r : ℕ) (from : Cursor) (n : ℕ) (c : Cursor) (tag most : ℕ) (b : Bool) (inv : RowInv v m r from n c) (it : RowIs r) (et : tag ≡ tagOf r) (em : most ≡ mostOf r) (eb : b ≡ takes (c .tag) n tag most) where
+module _ (t : Table) (v : Service) (m : List ℕ) (r : ℕ) (from : Cursor) (n : ℕ) (c : Cursor) (tag most : ℕ) (b : Bool) (inv : RowInv t v m r from n c) (et : tag ≡ tagOf t r) (em : most ≡ mostOf t r) (eb : b ≡ takes (c .tag) n tag most) where
   row-step : b ≡ true → (d : Cursor) → Stepped v m c d → (i : ℕ) → Stands v m i from
-      → (k : ℕ) × Stands v m (k + 1) d × ((kids rest : Rows) → Is (firstOf r + 1) (endOf r) kids → (K : Frames)
-      → run (drop i (tagsOf v m)) (frame zero (rowAt r kids rest) K) i
-      ≡ run (drop (k + 1) (tagsOf v m)) (frame zero kids (frame (n + 1) (rowAt r kids rest) K)) (k + 1))
+      → (k : ℕ) × Stands v m (k + 1) d × ((kids rest : Rows) → Is t (firstOf t r + 1) (endOf t r) kids → (K : Frames)
+      → run (drop i (tagsOf v m)) (frame zero (rowAt t r kids rest) K) i
+      ≡ run (drop (k + 1) (tagsOf v m)) (frame zero kids (frame (n + 1) (rowAt t r kids rest) K)) (k + 1))
   row-step tk d st i s =
       let x = inv .so-far i s in
       let k = x .0 in
       let e : takes (c .tag) n tag most ≡ true = sym eb ∙ tk in
-      let here = takes-at v m k c (x .1) n r tag most (it .small) et ∙ e in
-      let e2 : takesAt (tagsOf v m) k n (tagOf r) (mostOf r) ≡ true = rw (et, em) at here in (
+      let here = takes-at t v m k c (x .1) n r tag most et ∙ e in
+      let e2 : takesAt (tagsOf v m) k n (tagOf t r) (mostOf t r) ≡ true = rw (et, em) at here in (
         k,
-        stands-next v m k c (x .1) d st (takes-left v m k c (x .1) n r tag most (it .small) et e),
-        λ kids rest is K. x .2 kids rest is K ∙ row-have (tagsOf v m) k n (firstOf r) (tagOf r) (reqOf r) (mostOf r) kids rest K e2,
+        stands-next v m k c (x .1) d st (takes-left t v m k c (x .1) n r tag most et e),
+        λ kids rest is K. x .2 kids rest is K ∙ row-have (tagsOf v m) k n (firstOf t r) (tagOf t r) (reqOf t r) (mostOf t r) kids rest K e2,
       )
 
-  module _ (tk : b ≡ true) (d : Cursor) (st : Stepped v m c d) (f e : ℕ) (w : Went) (ef : f ≡ firstOf r) (ee : e ≡ endOf r) (dn : RowsDone v m (f + 1) e d w) where
-    pub row-again : (g : Cursor) → w ≡ To g → (n2 : ℕ) → n2 ≡ n + 1 → RowInv v m r from n2 g
-    row-again g ew n2 en = record {
+  module _ (tk : b ≡ true) (d : Cursor) (st : Stepped v m c d) (f o e : ℕ) (ef : f ≡ firstOf t r) (eo : o ≡ f + 1) (ee : e ≡ endOf t r) where
+    -- with no rows but the first
+    pub row-leaf : e ≤ o → (n2 : ℕ) → n2 ≡ n + 1 → RowInv t v m r from n2 d
+    row-leaf le n2 en = record {
       so-far = λ i s.
-          let d2 : RowsPass v m (f + 1) e d g = subst (λ (u : Went). RowsDone v m (f + 1) e d u) ew dn in
           let x = row-step tk d st i s in
-          let y = d2 .pass (x .0 + 1) (x .1) in
-          (y .0, y .1, λ kids rest is K. rw en (x .2 kids rest is K ∙ y .2 kids (kids-is r f e ef ee kids is) (frame (n + 1) (rowAt r kids rest) K)));
+          let k = x .0 + 1 in (
+            k,
+            x .1,
+            λ kids rest is K.
+                let L : Frames = frame (n + 1) (rowAt t r kids rest) K in
+                rw en (x .2 kids rest is K ∙ ap (λ (l : Rows). run (drop k (tagsOf v m)) (frame zero l L) k) (ended (kids-is t r f o e ef eo ee kids is) le) ∙ run-none (drop k (tagsOf v m)) 0 L k),
+          );
     }
 
-    pub row-stuck : (p : ℕ) → w ≡ Stuck p → RowStop v m r from p
-    row-stuck p ew = record {
-      stop = λ i s.
-          let d2 : RowsStop v m (f + 1) e d p = subst (λ (u : Went). RowsDone v m (f + 1) e d u) ew dn in
-          let x = row-step tk d st i s in
-          let y = d2 .stop (x .0 + 1) (x .1) in
-          (y .0, y .1, λ kids rest is K. x .2 kids rest is K ∙ y .2 kids (kids-is r f e ef ee kids is) (frame (n + 1) (rowAt r kids rest) K));
-    }
+    module _ (w : Went) (dn : RowsDone t v m o e d w) where
+      pub row-again : (g : Cursor) → w ≡ To g → (n2 : ℕ) → n2 ≡ n + 1 → RowInv t v m r from n2 g
+      row-again g ew n2 en = record {
+        so-far = λ i s.
+            let d2 : RowsPass t v m o e d g = subst (λ (u : Went). RowsDone t v m o e d u) ew dn in
+            let x = row-step tk d st i s in
+            let y = d2 .pass (x .0 + 1) (x .1) in
+            (y .0, y .1, λ kids rest is K. rw en (x .2 kids rest is K ∙ y .2 kids (kids-is t r f o e ef eo ee kids is) (frame (n + 1) (rowAt t r kids rest) K)));
+      }
+
+      pub row-stuck : (p : ℕ) → w ≡ Stuck p → RowStop t v m r from p
+      row-stuck p ew = record {
+        stop = λ i s.
+            let d2 : RowsStop t v m o e d p = subst (λ (u : Went). RowsDone t v m o e d u) ew dn in
+            let x = row-step tk d st i s in
+            let y = d2 .stop (x .0 + 1) (x .1) in
+            (y .0, y .1, λ kids rest is K. x .2 kids rest is K ∙ y .2 kids (kids-is t r f o e ef eo ee kids is) (frame (n + 1) (rowAt t r kids rest) K));
+      }
 
   pub row-less : b ≡ true → (n2 : ℕ) → n2 ≡ n + 1 → most - n2 < most - n
   row-less tk n2 en = let lt = takes-most (c .tag) tag n most (sym eb ∙ tk) in omega arith
@@ -173,42 +188,42 @@ module _ (v : Service) (m : List ℕ) (r : ℕ) (from : Cursor) (n : ℕ) (c : C
   pub row-fits : b ≡ true → (bound : ℕ) → most < bound → n + 1 < bound
   row-fits tk bound h = let lt = takes-most (c .tag) tag n most (sym eb ∙ tk) in omega arith
 
-  module _ (tk : b ≡ false) (o : Bool) (eo : o ≡ owed (reqOf r) n) where
-    not-here : (k : ℕ) → Stands v m k c → takesAt (tagsOf v m) k n (tagOf r) (mostOf r) ≡ false
-    not-here k s = let h = takes-at v m k c s n r tag most (it .small) et ∙ sym eb ∙ tk in rw (et, em) at h
+  module _ (tk : b ≡ false) (o : Bool) (eo : o ≡ owed (reqOf t r) n) where
+    not-here : (k : ℕ) → Stands v m k c → takesAt (tagsOf v m) k n (tagOf t r) (mostOf t r) ≡ false
+    not-here k s = let h = takes-at t v m k c s n r tag most et ∙ sym eb ∙ tk in rw (et, em) at h
 
-    pub row-short : o ≡ true → RowStop v m r from (c .at)
+    pub row-short : o ≡ true → RowStop t v m r from (c .at)
     row-short ow = record {
       stop = λ i s.
           let x = inv .so-far i s in
           let k = x .0 in
-          (k, stands-at v m k c (x .1), λ kids rest is K. x .2 kids rest is K ∙ row-owe (tagsOf v m) k n (firstOf r) (tagOf r) (reqOf r) (mostOf r) kids rest K (not-here k (x .1)) (sym eo ∙ ow));
+          (k, stands-at v m k c (x .1), λ kids rest is K. x .2 kids rest is K ∙ row-owe (tagsOf v m) k n (firstOf t r) (tagOf t r) (reqOf t r) (mostOf t r) kids rest K (not-here k (x .1)) (sym eo ∙ ow));
     }
 
-    pub row-done : o ≡ false → RowPass v m r from c
+    pub row-done : o ≡ false → RowPass t v m r from c
     row-done ow = record {
       pass = λ i s.
           let x = inv .so-far i s in
           let k = x .0 in
-          (k, x .1, λ kids rest is K. x .2 kids rest is K ∙ row-pass (tagsOf v m) k n (firstOf r) (tagOf r) (reqOf r) (mostOf r) kids rest K (not-here k (x .1)) (sym eo ∙ ow));
+          (k, x .1, λ kids rest is K. x .2 kids rest is K ∙ row-pass (tagsOf v m) k n (firstOf t r) (tagOf t r) (reqOf t r) (mostOf t r) kids rest K (not-here k (x .1)) (sym eo ∙ ow));
     }
 
 -- ---- THE LOOP OVER ROWS SIDE BY SIDE
-abbrev RowsSoFar : ℕ → ℕ → ℕ → List ℕ → ℕ → ℕ → Type 0
-RowsSoFar lo hi r ts i j =
-    (rows : Rows) → Is lo hi rows
-    → (left : Rows) × Is r hi left × ((K : Frames) → run (drop i ts) (frame zero rows K) i ≡ run (drop j ts) (frame zero left K) j)
+abbrev RowsSoFar : Table → ℕ → ℕ → ℕ → List ℕ → ℕ → ℕ → Type 0
+RowsSoFar t lo hi r ts i j =
+    (rows : Rows) → Is t lo hi rows
+    → (left : Rows) × Is t r hi left × ((K : Frames) → run (drop i ts) (frame zero rows K) i ≡ run (drop j ts) (frame zero left K) j)
 
-pub record RowsInv (v : Service) (m : List ℕ) (lo hi : ℕ) (from : Cursor) (r : ℕ) (c : Cursor) : Type 0 where
-  pub some-left : Some r hi
+pub record RowsInv (t : Table) (v : Service) (m : List ℕ) (lo hi : ℕ) (from : Cursor) (r : ℕ) (c : Cursor) : Type 0 where
+  pub some-left : Some t r hi
   pub lo-le : lo ≤ r
-  pub so-far : (i : ℕ) → Stands v m i from → (j : ℕ) × Stands v m j c × RowsSoFar lo hi r (tagsOf v m) i j
+  pub so-far : (i : ℕ) → Stands v m i from → (j : ℕ) × Stands v m j c × RowsSoFar t lo hi r (tagsOf v m) i j
 
-pub rows-start : (v : Service) (m : List ℕ) (lo hi : ℕ) (from : Cursor) → Some lo hi → RowsInv v m lo hi from lo from
-rows-start v m lo hi from x = record { some-left = x; lo-le = omega arith; so-far = λ i s. (i, s, λ rows is. (rows, is, λ K. refl)) }
+pub rows-start : (t : Table) (v : Service) (m : List ℕ) (lo hi : ℕ) (from : Cursor) → Some t lo hi → RowsInv t v m lo hi from lo from
+rows-start t v m lo hi from x = record { some-left = x; lo-le = omega arith; so-far = λ i s. (i, s, λ rows is. (rows, is, λ K. refl)) }
 
-module _ (v : Service) (m : List ℕ) (lo hi : ℕ) (from : Cursor) (r : ℕ) (c : Cursor) (inv : RowsInv v m lo hi from r c) where
-  pub rows-done : hi ≤ r → RowsPass v m lo hi from c
+module _ (t : Table) (v : Service) (m : List ℕ) (lo hi : ℕ) (from : Cursor) (r : ℕ) (c : Cursor) (inv : RowsInv t v m lo hi from r c) where
+  pub rows-done : hi ≤ r → RowsPass t v m lo hi from c
   rows-done h = record {
     pass = λ i s.
         let x = inv .so-far i s in
@@ -222,37 +237,37 @@ module _ (v : Service) (m : List ℕ) (lo hi : ℕ) (from : Cursor) (r : ℕ) (c
   }
 
   module _ (h : r < hi) where
-    rows-head : Head r hi (inv .some-left .rows)
+    rows-head : Head t r hi (inv .some-left .rows)
     rows-head = head (inv .some-left .are) h
 
-    pub rows-it : RowIs r
+    pub rows-it : RowIs t r
     rows-it = rows-head .it
 
-    pub rows-falls : (t : ℕ) → (hi - lo) + (hi - lo) + 1 ≡ t → (endOf r - r) + (endOf r - r) < t
-    rows-falls t e = omega (arith, rows-head .within, rows-head .it .up, rows-head .it .down, inv .lo-le)
+    pub rows-falls : (n : ℕ) → (hi - lo) + (hi - lo) + 1 ≡ n → (endOf t r - r) + (endOf t r - r) < n
+    rows-falls n e = omega (arith, rows-head .within, rows-head .it .up, rows-head .it .down, inv .lo-le)
 
-    pub rows-less : (e : ℕ) → e ≡ endOf r → hi - e < hi - r
+    pub rows-less : (e : ℕ) → e ≡ endOf t r → hi - e < hi - r
     rows-less e ee = omega (arith, rows-head .it .up, rows-head .it .down)
 
-    pub rows-small : r < size
+    pub rows-small : r < length t
     rows-small = rows-it .small
 
     -- the row at hand in whatever rows these are
-    rows-step : (i k : ℕ) → RowsSoFar lo hi r (tagsOf v m) i k → (rows : Rows) → Is lo hi rows
-        → (kids : Rows) × (rest : Rows) × Is (firstOf r + 1) (endOf r) kids × Is (endOf r) hi rest × ((K : Frames)
-        → run (drop i (tagsOf v m)) (frame zero rows K) i ≡ run (drop k (tagsOf v m)) (frame zero (rowAt r kids rest) K) k)
+    rows-step : (i k : ℕ) → RowsSoFar t lo hi r (tagsOf v m) i k → (rows : Rows) → Is t lo hi rows
+        → (kids : Rows) × (rest : Rows) × Is t (firstOf t r + 1) (endOf t r) kids × Is t (endOf t r) hi rest × ((K : Frames)
+        → run (drop i (tagsOf v m)) (frame zero rows K) i ≡ run (drop k (tagsOf v m)) (frame zero (rowAt t r kids rest) K) k)
     rows-step i k x rows is =
         let y = x rows is in
         let z = head (y .1) h in
         (z .it .kids, z .rest, z .it .below, z .beside, λ K. y .2 K ∙ ap (λ (l : Rows). run (drop k (tagsOf v m)) (frame zero l K) k) (z .is))
 
-    module _ (w : Went) (dn : RowDone v m r c w) where
-      pub rows-again : (d : Cursor) → w ≡ To d → (e : ℕ) → e ≡ endOf r → RowsInv v m lo hi from e d
+    module _ (w : Went) (dn : RowDone t v m r c w) where
+      pub rows-again : (d : Cursor) → w ≡ To d → (e : ℕ) → e ≡ endOf t r → RowsInv t v m lo hi from e d
       rows-again d ew e ee =
-          let d2 : RowPass v m r c d = subst (λ (u : Went). RowDone v m r c u) ew dn in
+          let d2 : RowPass t v m r c d = subst (λ (u : Went). RowDone t v m r c u) ew dn in
           let z = rows-head in
           record {
-            some-left = record { rows = z .rest; are = subst (λ (x : ℕ). Is x hi (z .rest)) (sym ee) (z .beside) };
+            some-left = record { rows = z .rest; are = subst (λ (x : ℕ). Is t x hi (z .rest)) (sym ee) (z .beside) };
             lo-le = omega (arith, inv .lo-le, z .it .up, z .it .down);
             so-far = λ i s.
                 let x = inv .so-far i s in
@@ -261,14 +276,14 @@ module _ (v : Service) (m : List ℕ) (lo hi : ℕ) (from : Cursor) (r : ℕ) (c
                   y .1,
                   λ rows is.
                       let q = rows-step i (x .0) (x .2) rows is in
-                      (q .1, subst (λ (u : ℕ). Is u hi (q .1)) (sym ee) (q .3), λ K. q .4 K ∙ y .2 (q .0) (q .1) (q .2) K),
+                      (q .1, subst (λ (u : ℕ). Is t u hi (q .1)) (sym ee) (q .3), λ K. q .4 K ∙ y .2 (q .0) (q .1) (q .2) K),
                 );
           }
 
-      pub rows-stuck : (p : ℕ) → w ≡ Stuck p → RowsStop v m lo hi from p
+      pub rows-stuck : (p : ℕ) → w ≡ Stuck p → RowsStop t v m lo hi from p
       rows-stuck p ew = record {
         stop = λ i s.
-            let d2 : RowStop v m r c p = subst (λ (u : Went). RowDone v m r c u) ew dn in
+            let d2 : RowStop t v m r c p = subst (λ (u : Went). RowDone t v m r c u) ew dn in
             let x = inv .so-far i s in
             let y = d2 .stop (x .0) (x .1) in (
               y .0,

@@ -6,17 +6,18 @@ use Rattle.service.specs.declared.Service.{Service}
 use Rattle.chart.specs.declared.Placed.{Placed}
 use Rattle.chart.specs.declared.Placed.the-variants.{Whole, Stuck}
 use Rattle.chart.specs.Chart.{Reading, FailsAt}
-use Rattle.chart.specs.Table.{chart}
-use Rattle.chart.specs.Tags.{tagsOf, startAt}
+use Rattle.chart.specs.Table.{Table, chartOf}
+use Rattle.chart.specs.Tags.{tagsOf}
+use Rattle.segments.specs.SegmentList.{startAt}
 use Rattle.chart.specs.Next.{rowsOf}
 
 -- number 16 is given at the segment that begins at p: j segments stand before it
-pub record StuckAt (v : Service) (m : List ℕ) (p : ℕ) : Type 0 where
+pub record StuckAt (t : Table) (v : Service) (m : List ℕ) (p : ℕ) : Type 0 where
   pub j : ℕ
   pub start : p ≡ startAt v m j
-  pub fails : FailsAt chart (tagsOf v m) j
+  pub fails : FailsAt (chartOf t) (tagsOf v m) j
 
 -- Whole: the segments have a reading, and these are its rows
-abbrev pub Answers : Service → List ℕ → Placed → Type 0
-Answers v m Whole = Reading chart (tagsOf v m) (rowsOf (tagsOf v m))
-Answers v m (Stuck p) = StuckAt v m p
+abbrev pub Answers : Table → Service → List ℕ → Placed → Type 0
+Answers t v m Whole = Reading (chartOf t) (tagsOf v m) (rowsOf t (tagsOf v m))
+Answers t v m (Stuck p) = StuckAt t v m p

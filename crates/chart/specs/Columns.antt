@@ -1,72 +1,63 @@
 -- The table's columns, as the code reads them, and what rows of the table are in the tree.
 use mathlib.Core.Path.{_≡_}
-use mathlib.Core.Bool.{Bool, true, false}
-use mathlib.Core.List.{List, [], _∷_, map}
+use mathlib.Core.Bool.{Bool}
+use mathlib.Core.List.{List, []}
 use Prim.Native.Nat.{ℕ, _+_, _<_, _≤_}
-use lib.Dec.{ltb, eqb}
-use lib.ListN.{getD}
+use lib.Dec.{ltb}
+use lib.ListN.{getD, length}
+use Rattle.table.specs.Entries.{tagIn, parentIn, endIn, statusIn, repeatsIn, required}
 use Rattle.chart.specs.Chart.{Rows, none, row}
 use Rattle.chart.specs.Machine.{pick}
-use Rattle.paymul.specs.Lines.{endT}
-unfoldable pub use Rattle.paymul.specs.Lines.{lines, linesBy}
-use Rattle.chart.specs.Table.{Entry, entry, table, size, required, never}
+use Rattle.chart.specs.Table.{Table, mostIn}
 
-abbrev pub tagIn : Entry → ℕ
-tagIn (entry tag parent status repeats) = tag
+-- the line of row r
+abbrev pub lineOf : Table → ℕ → List ℕ
+lineOf t r = getD t r []
 
-abbrev pub parentIn : Entry → ℕ
-parentIn (entry tag parent status repeats) = parent
+abbrev pub tagOf : Table → ℕ → ℕ
+tagOf t r = tagIn (lineOf t r)
 
-abbrev pub statusIn : Entry → ℕ
-statusIn (entry tag parent status repeats) = status
+unfoldable pub parentOf : Table → ℕ → ℕ
+parentOf t r = parentIn (lineOf t r)
 
-abbrev pub repeatsIn : Entry → ℕ
-repeatsIn (entry tag parent status repeats) = repeats
+abbrev pub endOf : Table → ℕ → ℕ
+endOf t r = endIn (lineOf t r)
 
-unfoldable pub tagOf : ℕ → ℕ
-tagOf r = getD (map tagIn table) r 0
+abbrev pub statusOf : Table → ℕ → ℕ
+statusOf t r = statusIn (lineOf t r)
 
-unfoldable pub parentOf : ℕ → ℕ
-parentOf r = getD (map parentIn table) r 0
+abbrev pub repeatsOf : Table → ℕ → ℕ
+repeatsOf t r = repeatsIn (lineOf t r)
 
-unfoldable pub statusOf : ℕ → ℕ
-statusOf r = getD (map statusIn table) r 0
+unfoldable pub reqOf : Table → ℕ → Bool
+reqOf t r = required (statusOf t r)
 
-unfoldable pub repeatsOf : ℕ → ℕ
-repeatsOf r = getD (map repeatsIn table) r 0
-
-unfoldable pub endOf : ℕ → ℕ
-endOf r = getD endT r 0
-
-unfoldable pub reqOf : ℕ → Bool
-reqOf r = eqb (statusOf r) required
-
-unfoldable pub mostOf : ℕ → ℕ
-mostOf r = pick (eqb (statusOf r) never) 0 (repeatsOf r)
+unfoldable pub mostOf : Table → ℕ → ℕ
+mostOf t r = mostIn (lineOf t r)
 
 -- the row of the first segment of an occurrence: the next row for a group, the row itself for a segment
-unfoldable pub firstOf : ℕ → ℕ
-firstOf r = pick (ltb (r + 1) (endOf r)) (r + 1) r
+unfoldable pub firstOf : Table → ℕ → ℕ
+firstOf t r = pick (ltb (r + 1) (endOf t r)) (r + 1) r
 
 -- the rows of the table from lo to hi are these
-pub data Is : ℕ → ℕ → Rows → Type 0 where
-  is-none : {i : ℕ} → Is i i none
+pub data Is (t : Table) : ℕ → ℕ → Rows → Type 0 where
+  is-none : {i : ℕ} → Is t i i none
   is-row : {lo hi num tag : ℕ} {req : Bool} {most : ℕ} {kids rest : Rows}
-      → lo < size → lo ≤ firstOf lo → firstOf lo < endOf lo → endOf lo ≤ hi → num ≡ firstOf lo → tag ≡ tagOf lo → req ≡ reqOf lo → most ≡ mostOf lo
-      → Is (firstOf lo + 1) (endOf lo) kids → Is (endOf lo) hi rest → Is lo hi (row num tag req most kids rest)
+      → lo < length t → lo ≤ firstOf t lo → firstOf t lo < endOf t lo → endOf t lo ≤ hi → num ≡ firstOf t lo → tag ≡ tagOf t lo → req ≡ reqOf t lo → most ≡ mostOf t lo
+      → Is t (firstOf t lo + 1) (endOf t lo) kids → Is t (endOf t lo) hi rest → Is t lo hi (row num tag req most kids rest)
 
-abbrev pub rowAt : ℕ → Rows → Rows → Rows
-rowAt r kids rest = row (firstOf r) (tagOf r) (reqOf r) (mostOf r) kids rest
+abbrev pub rowAt : Table → ℕ → Rows → Rows → Rows
+rowAt t r kids rest = row (firstOf t r) (tagOf t r) (reqOf t r) (mostOf t r) kids rest
 
 -- rows of the table from lo to hi
-pub record Some (lo hi : ℕ) : Type 0 where
+pub record Some (t : Table) (lo hi : ℕ) : Type 0 where
   pub rows : Rows
-  pub are : Is lo hi rows
+  pub are : Is t lo hi rows
 
 -- a row of the table with rows below it
-pub record RowIs (r : ℕ) : Type 0 where
-  pub small : r < size
-  pub up : r ≤ firstOf r
-  pub down : firstOf r < endOf r
+pub record RowIs (t : Table) (r : ℕ) : Type 0 where
+  pub small : r < length t
+  pub up : r ≤ firstOf t r
+  pub down : firstOf t r < endOf t r
   pub kids : Rows
-  pub below : Is (firstOf r + 1) (endOf r) kids
+  pub below : Is t (firstOf t r + 1) (endOf t r) kids

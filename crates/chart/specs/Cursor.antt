@@ -10,7 +10,8 @@ use Rattle.segments.specs.declared.Segment.the-variants.{Finished, Unfinished, 
 use Rattle.segments.specs.Bytes.{if}
 use Rattle.segments.specs.Segments.{segmentAt}
 use Rattle.chart.specs.declared.Cursor.{Cursor}
-use Rattle.chart.specs.Tags.{startsFrom, startsOf, tagOn, tagsFrom, tagsOf}
+use Rattle.chart.specs.Tags.{tagOn, tagsFrom, tagsOf}
+use Rattle.segments.specs.SegmentList.{startsFrom, startsOf}
 
 -- the tag of the segment that begins at i, 0 past the last one
 unfoldable pub tagAt : Service → List ℕ → ℕ → ℕ

@@ -1,7 +1,5 @@
 -- One step from segment to segment. Assumes nothing.
-use Prim.Native.Nat.{ℕ, zero, suc, _+_, _-_, _^_, _≤_, _<_}
-use mir.Val.{Fits}
-use mir.Syntax.{w64}
+use Prim.Native.Nat.{ℕ, zero, suc, _+_, _-_, _≤_, _<_}
 use native.Mathlib.Numerals.{add-one}
 use native.Mathlib.Decide.{decLt}
 use native.Mathlib.Omega.{arith}
@@ -15,14 +13,14 @@ use borrow.Author.Tests.{lt-ltb, le-ltb}
 use Rattle.service.specs.declared.Service.{Service}
 use Rattle.segments.specs.declared.Segment.{Segment}
 use Rattle.segments.specs.declared.Segment.the-variants.{Finished, Unfinished, Nothing}
-use Rattle.segments.specs.declared.End.{End}
-use Rattle.segments.specs.declared.End.the-variants.{At, None}
-use Rattle.segments.specs.Bytes.{if, endFrom}
-use Rattle.segments.specs.Segments.{segmentAt, segmentBy}
-use Rattle.segments.specs.SegmentsLaws.{lies}
+use Rattle.segments.specs.Bytes.{if}
+use Rattle.segments.specs.Segments.{segmentAt}
+use Rattle.segments.specs.SegmentsLaws.{lies, something}
+use Rattle.segments.specs.SegmentList.{startsFrom, startsOf}
+use Rattle.segments.specs.StartsLaws.{starts-past, starts-finished, starts-unfinished}
 use Rattle.chart.specs.declared.Cursor.{Cursor}
-use Rattle.chart.specs.Tags.{startsFrom, startsOf, tagOn, tagsFrom, tagsOf}
-use Rattle.chart.specs.TagsLaws.{tags-few, starts-past, starts-finished, starts-unfinished, tags-past, tags-finished, tags-unfinished}
+use Rattle.chart.specs.Tags.{tagOn, tagsFrom, tagsOf}
+use Rattle.chart.specs.TagsLaws.{tags-past, tags-finished, tags-unfinished}
 use Rattle.chart.specs.Cursor.{tagAt, cursorAt, stepBy, stepFrom, Onward, CursorIs, Stepped, Tagged, Stands}
 
 -- ---- the cursor at a place
@@ -45,14 +43,6 @@ cursor-eq : (r c : Cursor) → r .at ≡ c .at → r .tag ≡ c .tag → r ≡ c
 cursor-eq r c p q = λ k. record { at = p k; tag = q k }
 
 -- ---- the next place
-never-nothing : (s : List ℕ) (k : End) → segmentBy s k ≡ Nothing → ⊥
-never-nothing s (At t) e = let z : _≡_ {A = ℕ} 0 1 = cc in omega arith
-never-nothing s None e = let z : _≡_ {A = ℕ} 0 1 = cc in omega arith
-
-pub something : (v : Service) (s : List ℕ) (i : ℕ) → i < length s → segmentAt v i s ≡ Nothing → ⊥
-unfolding segmentAt
-something v s i h e = never-nothing s (endFrom v false i (drop i s)) (simp (lt-ltb _ _ h) at e)
-
 module _ (v : Service) (m : List ℕ) (c : Cursor) (k : Segment) (e : k ≡ segmentAt v (c .at) m) where
   step-by : stepBy k v m c ≡ stepFrom v m c
   unfolding stepFrom
@@ -187,7 +177,3 @@ module _ (v : Service) (m : List ℕ) (i : ℕ) (c : Cursor) (s : Stands v m i c
   -- how many segments there are, past the last one
   pub stands-all : length m ≤ c .at → i ≡ length (tagsOf v m)
   stands-all h = let g = stands-ge h in omega (arith, s .count)
-
-  -- a count of the segments passed fits
-  pub stands-fits : c .at < length m → length m < 2 ^ 64 → Fits w64 (i + 1)
-  stands-fits h g = let lt = stands-lt h in let few = tags-few v m 0 in omega arith

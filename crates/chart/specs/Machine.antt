@@ -134,8 +134,8 @@ goodK done = true
 goodK (frame c rows K) = and (good rows) (goodK K)
 
 -- THE TESTS OF A CHART: no tag is ever in doubt, and what must be may be
-abbrev pub Sound : Rows → Type 0
-Sound rows = T (detK (only rows)) × T (goodK (only rows))
+abbrev pub Decided : Rows → Type 0
+Decided rows = T (detK (only rows)) × T (goodK (only rows))
 
 -- each row's tag is that which f gives its number
 unfoldable pub labels : (ℕ → ℕ) → Rows → Bool

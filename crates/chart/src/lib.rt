@@ -1,38 +1,44 @@
 // Placing a message's segments on the chart.
 ghost use mathlib.Core.Path.{_≡_};
 ghost use Prim.Native.Nat.{_<_};
+ghost use lib.ListN.{length};
 ghost use Rattle.chart.specs.Machine.{owed, takes as taken};
 ghost use Rattle.chart.specs.Placing.{RowDone, RowsDone};
 ghost use Rattle.chart.specs.Cursor.{CursorIs, Stepped};
 ghost use Rattle.chart.specs.Answer.{Answers};
 ghost use Rattle.chart.specs.Next.{nextOf, nextRow};
-ghost use Rattle.chart.specs.Columns.{lines, tagOf, parentOf, endOf, reqOf, mostOf, firstOf, RowIs, Some};
-ghost use Rattle.chart.specs.Table.{size};
+ghost use Rattle.chart.specs.Columns.{tagOf, parentOf, endOf, statusOf, reqOf, mostOf, firstOf, RowIs, Some};
+ghost use Rattle.chart.specs.Sound.{Sound};
+ghost use Rattle.chart.specs.Paymul.{PAYMUL};
 pub use paymul::CNT;
-use paymul::COLUMNS;
-use paymul::END;
-use paymul::HUNDREDS;
 pub use paymul::LIN;
-use paymul::NEVER;
-use paymul::ONES;
 pub use paymul::ORDER_CUX;
 pub use paymul::ORDER_FII;
 pub use paymul::ORDER_MOA;
 pub use paymul::ORDER_NAD;
 pub use paymul::ORDER_PRC;
-use paymul::PARENT;
 pub use paymul::PAYMENT_DOC;
 pub use paymul::PAYMENT_FII;
 pub use paymul::PAYMENT_FTX;
 pub use paymul::PAYMENT_MOA;
 pub use paymul::PAYMENT_NAD;
 pub use paymul::PAYMENT_PRC;
-use paymul::REQUIRED;
-pub use paymul::ROWS;
 pub use paymul::SEQ;
-use paymul::STATUS;
 use segments::Segment;
 use service::Service;
+use table::COLUMNS;
+use table::END;
+use table::HUNDREDS;
+use table::ONES;
+use table::PARENT;
+use table::STATUS;
+
+// The letters of the statuses that say something: M and R, and N.
+const MANDATORY: u64 = 77;
+
+const REQUIRED: u64 = 82;
+
+const NEVER: u64 = 78;
 
 // A place in a message: where a segment begins, and its tag as a code; past the last segment the tag is 0.
 pub struct Cursor {
@@ -77,78 +83,97 @@ pub fn step(m: &[u8], v: Service, c: Cursor) -> Cursor
     }
 }
 
-// The tag of a row, as a code.
-fn tag_of(chart: &[[u8; COLUMNS]; ROWS], r: usize) -> u64
-    requires { ⌜ (now chart ≡ lines) × (r < size) ⌝ }
-    ensures { λ x. ⌜ x ≡ tagOf r ⌝ }
+// A byte as a number.
+fn wide(x: u8) -> u64
+    ensures { λ r. ⌜ (r ≡ x) × (r < 256) ⌝ }
 {
-    let a = chart[r][0] as u64;
-    let b = chart[r][1] as u64;
-    let c = chart[r][2] as u64;
+    x as u64
+}
+
+fn index(x: u8) -> usize
+    ensures { λ r. ⌜ (r ≡ x) × (r < 256) ⌝ }
+{
+    x as usize
+}
+
+// The tag of a row, as a code.
+fn tag_of(t: &[[u8; COLUMNS]], r: usize) -> u64
+    requires { ⌜ r < length (now t) ⌝ }
+    ensures { λ x. ⌜ x ≡ tagOf (now (t .entry)) r ⌝ }
+{
+    let a = wide(t[r][0]);
+    let b = wide(t[r][1]);
+    let c = wide(t[r][2]);
     ((256 + a) * 256 + b) * 256 + c
 }
 
-fn parent_of(chart: &[[u8; COLUMNS]; ROWS], r: usize) -> usize
-    requires { ⌜ (now chart ≡ lines) × (r < size) ⌝ }
-    ensures { λ x. ⌜ x ≡ parentOf r ⌝ }
+fn parent_of(t: &[[u8; COLUMNS]], r: usize) -> usize
+    requires { ⌜ r < length (now t) ⌝ }
+    ensures { λ x. ⌜ x ≡ parentOf (now (t .entry)) r ⌝ }
 {
-    chart[r][PARENT] as usize
+    index(t[r][PARENT])
 }
 
-fn end_of(chart: &[[u8; COLUMNS]; ROWS], r: usize) -> usize
-    requires { ⌜ (now chart ≡ lines) × (r < size) ⌝ }
-    ensures { λ x. ⌜ x ≡ endOf r ⌝ }
+fn end_of(t: &[[u8; COLUMNS]], r: usize) -> usize
+    requires { ⌜ r < length (now t) ⌝ }
+    ensures { λ x. ⌜ x ≡ endOf (now (t .entry)) r ⌝ }
 {
-    chart[r][END] as usize
+    index(t[r][END])
+}
+
+fn status_of(t: &[[u8; COLUMNS]], r: usize) -> u64
+    requires { ⌜ r < length (now t) ⌝ }
+    ensures { λ x. ⌜ x ≡ statusOf (now (t .entry)) r ⌝ }
+{
+    wide(t[r][STATUS])
 }
 
 // How often a row may come: never, or its repeats.
-fn most_of(chart: &[[u8; COLUMNS]; ROWS], r: usize) -> usize
-    requires { ⌜ (now chart ≡ lines) × (r < size) ⌝ }
-    ensures { λ x. ⌜ x ≡ mostOf r ⌝ }
+fn most_of(t: &[[u8; COLUMNS]], r: usize) -> usize
+    requires { ⌜ r < length (now t) ⌝ }
+    ensures { λ x. ⌜ x ≡ mostOf (now (t .entry)) r ⌝ }
 {
-    if chart[r][STATUS] == NEVER {
+    if status_of(t, r) == NEVER {
         return 0;
     }
-    chart[r][HUNDREDS] as usize * 100 + chart[r][ONES] as usize
+    let hundreds = index(t[r][HUNDREDS]);
+    let ones = index(t[r][ONES]);
+    hundreds * 100 + ones
 }
 
 // The row of the first segment of an occurrence of a row.
-fn first_of(chart: &[[u8; COLUMNS]; ROWS], r: usize) -> usize
-    requires { ⌜ (now chart ≡ lines) × (r < size) ⌝ }
-    ensures { λ x. ⌜ x ≡ firstOf r ⌝ }
+fn first_of(t: &[[u8; COLUMNS]], r: usize) -> usize
+    requires { ⌜ r < length (now t) ⌝ }
+    ensures { λ x. ⌜ x ≡ firstOf (now (t .entry)) r ⌝ }
 {
-    let end = end_of(chart, r);
+    let end = end_of(t, r);
     if r + 1 < end { r + 1 } else { r }
 }
 
 // Whether a row is required and has not come.
-fn owes(chart: &[[u8; COLUMNS]; ROWS], r: usize, times: usize) -> bool
-    requires { ⌜ (now chart ≡ lines) × (r < size) ⌝ }
-    ensures { λ x. ⌜ x ≡ owed (reqOf r) times ⌝ }
+fn owes(t: &[[u8; COLUMNS]], r: usize, times: usize) -> bool
+    requires { ⌜ r < length (now t) ⌝ }
+    ensures { λ x. ⌜ x ≡ owed (reqOf (now (t .entry)) r) times ⌝ }
 {
     if times == 0 {
-        return chart[r][STATUS] == REQUIRED;
+        let status = status_of(t, r);
+        if status == MANDATORY {
+            return true;
+        }
+        return status == REQUIRED;
     }
     false
 }
 
 // The rows from `lo` up to but excluding `hi`, side by side.
-fn place_rows(
-    m: &[u8],
-    v: Service,
-    chart: &[[u8; COLUMNS]; ROWS],
-    lo: usize,
-    hi: usize,
-    from: Cursor,
-) -> Went
-    requires { ⌜ (now chart ≡ lines) × Some lo hi ⌝ }
-    ensures { λ x. ⌜ RowsDone v (now (m .entry)) lo hi from x ⌝ }
+fn place_rows(m: &[u8], v: Service, t: &[[u8; COLUMNS]], lo: usize, hi: usize, from: Cursor) -> Went
+    requires { ⌜ Some (now t) lo hi ⌝ }
+    ensures { λ x. ⌜ RowsDone (now (t .entry)) v (now (m .entry)) lo hi from x ⌝ }
 {
     let mut r = lo;
     let mut c = from;
     while r < hi {
-        let w = place_occurrences(m, v, chart, r, c);
+        let w = place_occurrences(m, v, t, r, c);
         match w {
             Went::To(d) => {
                 c = d;
@@ -157,7 +182,7 @@ fn place_rows(
                 return Went::Stuck(at);
             }
         }
-        r = end_of(chart, r);
+        r = end_of(t, r);
     }
     Went::To(c)
 }
@@ -173,48 +198,47 @@ fn takes(c: Cursor, tag: u64, times: usize, most: usize) -> bool
 }
 
 // The occurrences of the row `r`: each its first segment and then its other rows.
-fn place_occurrences(
-    m: &[u8],
-    v: Service,
-    chart: &[[u8; COLUMNS]; ROWS],
-    r: usize,
-    from: Cursor,
-) -> Went
-    requires { ⌜ (now chart ≡ lines) × RowIs r ⌝ }
-    ensures { λ x. ⌜ RowDone v (now (m .entry)) r from x ⌝ }
+fn place_occurrences(m: &[u8], v: Service, t: &[[u8; COLUMNS]], r: usize, from: Cursor) -> Went
+    requires { ⌜ RowIs (now t) r ⌝ }
+    ensures { λ x. ⌜ RowDone (now (t .entry)) v (now (m .entry)) r from x ⌝ }
 {
-    let tag = tag_of(chart, r);
-    let most = most_of(chart, r);
-    let end = end_of(chart, r);
-    let first = first_of(chart, r);
+    let tag = tag_of(t, r);
+    let most = most_of(t, r);
+    let end = end_of(t, r);
+    let others = first_of(t, r) + 1;
     let mut times: usize = 0;
     let mut c = from;
     while takes(c, tag, times, most) {
         let next = times + 1;
-        let w = place_rows(m, v, chart, first + 1, end, step(m, v, c));
-        match w {
-            Went::To(d) => {
-                c = d;
+        let d = step(m, v, c);
+        if others < end {
+            let w = place_rows(m, v, t, others, end, d);
+            match w {
+                Went::To(e) => {
+                    c = e;
+                }
+                Went::Stuck(at) => {
+                    return Went::Stuck(at);
+                }
             }
-            Went::Stuck(at) => {
-                return Went::Stuck(at);
-            }
+        } else {
+            c = d;
         }
         times = next;
     }
-    if owes(chart, r, times) {
+    if owes(t, r, times) {
         return Went::Stuck(c.at);
     }
     Went::To(c)
 }
 
-// Whether the message's segments can be placed on the chart, or the first with which no message begins.
-pub fn place(m: &[u8], v: Service) -> Placed
-    ensures { λ x. ⌜ Answers v (now (m .entry)) x ⌝ }
+// Whether the message's segments can be placed on the table, or the first with which no message begins.
+fn place_on(m: &[u8], v: Service, t: &[[u8; COLUMNS]]) -> Placed
+    requires { ⌜ Sound (now t) ⌝ }
+    ensures { λ x. ⌜ Answers (now (t .entry)) v (now (m .entry)) x ⌝ }
 {
     let c = cursor_at(m, 0, v);
-    let chart = paymul::chart();
-    let w = place_rows(m, v, &chart, 0, ROWS, c);
+    let w = place_rows(m, v, t, 0, t.len(), c);
     match w {
         Went::To(d) => {
             if d.at < m.len() {
@@ -226,32 +250,47 @@ pub fn place(m: &[u8], v: Service) -> Placed
     }
 }
 
-// The row to try after a row: the one beside it, or after the last of a group the group again.
-fn next_of(chart: &[[u8; COLUMNS]; ROWS], r: usize) -> usize
-    requires { ⌜ (now chart ≡ lines) × (r < size) ⌝ }
-    ensures { λ x. ⌜ x ≡ nextOf r ⌝ }
+// The same on the PAYMUL chart.
+pub fn place(m: &[u8], v: Service) -> Placed
+    ensures { λ x. ⌜ Answers PAYMUL v (now (m .entry)) x ⌝ }
 {
-    let end = end_of(chart, r);
-    let parent = parent_of(chart, r);
-    if end < ROWS {
-        if parent_of(chart, end) == parent {
+    let chart = paymul::chart();
+    place_on(m, v, &chart)
+}
+
+// The row to try after a row: the one beside it, or after the last of a group the group again.
+fn next_of(t: &[[u8; COLUMNS]], r: usize) -> usize
+    requires { ⌜ r < length (now t) ⌝ }
+    ensures { λ x. ⌜ x ≡ nextOf (now (t .entry)) r ⌝ }
+{
+    let end = end_of(t, r);
+    let parent = parent_of(t, r);
+    if end < t.len() {
+        let beside = parent_of(t, end);
+        if beside == parent {
             return end;
         }
     }
     parent
 }
 
-// The row of a segment with the tag, where the segment before it stands at the row `prev` (0 before the first); ROWS where there is none.
-pub fn next_row(prev: usize, tag: u64) -> usize
-    ensures { λ x. ⌜ x ≡ nextRow prev tag ⌝ }
+// The row of a segment with the tag, where the segment before it stands at the row `prev` (0 before the first); the number of rows where there is none. On
+// any table at most as many rows are tried as it has.
+pub fn next_row(t: &[[u8; COLUMNS]], prev: usize, tag: u64) -> usize
+    ensures { λ x. ⌜ x ≡ nextRow (now (t .entry)) prev tag ⌝ }
 {
-    let chart = paymul::chart();
+    let rows = t.len();
+    let mut left = rows;
     let mut r = prev;
-    while r < ROWS {
-        if tag_of(&chart, r) == tag {
-            return first_of(&chart, r);
+    while 0 < left {
+        if rows <= r {
+            return rows;
         }
-        r = next_of(&chart, r);
+        if tag_of(t, r) == tag {
+            return first_of(t, r);
+        }
+        r = next_of(t, r);
+        left = left - 1;
     }
-    ROWS
+    rows
 }

@@ -7,18 +7,16 @@ use mathlib.Core.Bool.{true}
 use lib.ListN.{length, take, drop, take-append-drop}
 use lib.Seq.{drop-drop}
 use Rattle.service.specs.declared.Service.{Service}
-use Rattle.values.specs.Numbers.{Bytes}
-use Rattle.values.specs.ByteLaws.{drop-bytes, take-bytes, append-bytes}
 use Rattle.interchange.specs.declared.Opening.the-variants.{Opens}
 use Rattle.interchange.specs.Messages.{Extent, closed, startsAt, endsAt, messagesOf}
 use Rattle.interchange.specs.Envelope.{openingOf, bodyOf}
-use Rattle.interchange.specs.Walk.{Walks}
 use Rattle.interchange.specs.ZeroTheorems.{walks-zero}
 use Rattle.interchange.specs.Damage.{lastClosed, bytesOf, replaced, shifted, Survives}
 use Rattle.interchange.specs.DamageTheorem.{damage, targets}
-use Rattle.report.specs.ReportedLaws.{Given, one-report}
-use Rattle.demands.specs.Runs.{Lent, Visit, Run, Over, none, also, Told}
-use Rattle.demands.specs.RunLaws.{Inside, inside-all, steps, owned, step-message, run-over, Split, over-split, same-before, same-after}
+use Rattle.lent.specs.Lists.{Lists}
+use Rattle.report.specs.ReportedLaws.{one-report}
+use Rattle.demands.specs.Runs.{Visit, Run, Over, none, also, Told}
+use Rattle.demands.specs.RunLaws.{Inside, inside-all, steps, owned, step-message, run-over, over-split, same-before, same-after}
 use Rattle.demands.specs.OtherMessages.{Chosen, Damaged, SameOthers, SameReport, SameReports, Unharmed}
 use Rattle.demands.specs.OtherMessages as others
 
@@ -56,25 +54,20 @@ edged-is s a p q t d h g =
     ∙ ap (λ (l : List ℕ). take a s ++ (u ++ l)) (sym (append-assoc d w (drop t s)))
     ∙ ap (λ (l : List ℕ). take a s ++ l) (sym (append-assoc u (d ++ w) (drop t s)))
 
-edged-bytes : (s : List ℕ) (a p q t : ℕ) (d : List ℕ) → Bytes s → Bytes d → Bytes (edged s a p q d t)
-edged-bytes s a p q t d b c =
-    append-bytes (take (p - a) (drop a s)) (d ++ take (t - q) (drop q s)) (take-bytes (p - a) (drop a s) (drop-bytes a s b))
-    (append-bytes d (take (t - q) (drop q s)) c (take-bytes (t - q) (drop q s) (drop-bytes q s b)))
-
 -- ---- as many visits as messages
-over-length : (v : Service) (s : List ℕ) (x : Lent) {ms : List Extent} {l : List Visit} → Over v s x ms l → length l ≡ length ms
+over-length : (v : Service) (s : List ℕ) (x : Lists) {ms : List Extent} {l : List Visit} → Over v s x ms l → length l ≡ length ms
 over-length v s x none = refl
 over-length v s x (also m w ms l t r) = ap suc (over-length v s x r)
 
 -- the first of some visits
-pub record First (v : Service) (s : List ℕ) (x : Lent) (m : Extent) (ms : List Extent) (l : List Visit) : Type 0 where
+pub record First (v : Service) (s : List ℕ) (x : Lists) (m : Extent) (ms : List Extent) (l : List Visit) : Type 0 where
   pub one : Visit
   pub back : List Visit
   pub is : l ≡ one ∷ back
   pub told : Told v s x m one
   pub over : Over v s x ms back
 
-over-first : (v : Service) (s : List ℕ) (x : Lent) (m : Extent) (ms : List Extent) {k : List Extent} {l : List Visit} → Over v s x k l → k ≡ m ∷ ms → First v s x m ms l
+over-first : (v : Service) (s : List ℕ) (x : Lists) (m : Extent) (ms : List Extent) {k : List Extent} {l : List Visit} → Over v s x k l → k ≡ m ∷ ms → First v s x m ms l
 over-first v s x m ms none e = absurd (let z : _≡_ {A = ℕ} 0 1 = cc in omega arith)
 over-first v s x m ms (also m′ w ms′ l t r) e =
     let p : m′ ≡ m = cc in
@@ -85,9 +78,9 @@ over-first v s x m ms (also m′ w ms′ l t r) e =
 module _ (s : List ℕ) (v : Service) (first : ℕ) (o : openingOf s ≡ Opens v first) (s′ : List ℕ) (o′ : openingOf s′ ≡ Opens v first) where
   same-report : (m m′ : Extent) → bytesOf s′ m′ ≡ bytesOf s m → SameReport s s′ m m′
   same-report m m′ e x at at′ g g′ p q =
-      let a = step-message s v first o p (startsAt m) (endsAt m) (g .report) refl in
-      let b = step-message s′ v first o′ q (startsAt m′) (endsAt m′) (g′ .report) refl in
-      one-report v (bytesOf s m) (x .rows) (x .starts) (x .totals) (g .rows) (g .starts) (g .totals) (g′ .rows) (g′ .starts) (g′ .totals) (g .report) (g′ .report) (a .1) (rw (← e) (b .1))
+      let a = step-message s v first o p (startsAt m) (endsAt m) (g .answer) refl in
+      let b = step-message s′ v first o′ q (startsAt m′) (endsAt m′) (g′ .answer) refl in
+      one-report v (bytesOf s m) x (g .lists) (g′ .lists) (g .answer) (g′ .answer) (a .1) (rw (← e) (b .1))
 
   each-same : (l l′ : List Extent) → map (bytesOf s′) l′ ≡ map (bytesOf s) l → SameReports s s′ l l′
   each-same [] [] e = others.none
@@ -99,13 +92,13 @@ module _ (s : List ℕ) (v : Service) (first : ℕ) (o : openingOf s ≡ Opens v
       others.also m m′ l l′ (same-report m m′ p) (each-same l l′ q)
 
 module _ (s : List ℕ) (v : Service) (first : ℕ) (before : List Extent) (a t e : ℕ) (after : List Extent) (c : Chosen s v first before a t e after)
-    (s′ : List ℕ) (w : Survives v s s′ first before after) (b′ : Bytes s′) where
-  told-by : (x : Lent) (l : List Visit) → Run s′ x 0 l → Over v s′ x (before ++ (w .kept .between ++ map (shifted (length s) (length s′)) after)) l
+    (s′ : List ℕ) (w : Survives v s s′ first before after) where
+  told-by : (x : Lists) (l : List Visit) → Run s′ x 0 l → Over v s′ x (before ++ (w .kept .between ++ map (shifted (length s) (length s′)) after)) l
   told-by x l r = run-over s′ v first (w .opens) x (w .walks) r
 
-  same-by : (x : Lent) (l l′ : List Visit) → Run s x 0 l → Run s′ x 0 l′ → SameOthers (length s) (length s′) a before after l l′
+  same-by : (x : Lists) (l l′ : List Visit) → Run s x 0 l → Run s′ x 0 l′ → SameOthers (length s) (length s′) a before after l l′
   same-by x l l′ r r′ =
-      let o = run-over s v first (c .opens) x (walks-zero s (c .bytes) v first (c .opens)) r in
+      let o = run-over s v first (c .opens) x (walks-zero s v first (c .opens)) r in
       let f = over-split v s x before (closed a e ∷ after) o (c .target .messages) in
       let g = over-first v s x (closed a e) after (f .over-back) refl in
       let f′ = over-split v s′ x before (w .kept .between ++ map (shifted (length s) (length s′)) after) (told-by x l′ r′) refl in
@@ -141,14 +134,12 @@ pub other-messages : (s : List ℕ) (v : Service) (first : ℕ) (before : List E
     → (p q : ℕ) (d s′ : List ℕ) → Damaged s a t p q d s′ → Unharmed v s s′ first a before after
 other-messages s v first before a t e after c p q d s′ k =
     let n : s′ ≡ replaced s a (edged s a p q d t) t = k .result ∙ edged-is s a p q t d (k .low) (k .high) in
-    let b : Bytes (edged s a p q d t) = edged-bytes s a p q t d (c .bytes) (k .bytes) in
     let h : length (replaced s a (edged s a p q d t) t) ≤ 1048576 = let i = ap length n in let j = k .short in omega arith in
-    let w = damage s (c .bytes) v first (c .opens) before a t e after (c .target) (edged s a p q d t) b h in
+    let w = damage s v first (c .opens) before a t e after (c .target) (edged s a p q d t) h in
     subst (λ (y : List ℕ). Unharmed v s y first a before after) (sym n)
-    (whole s v first before a t e after c (replaced s a (edged s a p q d t) t) w
-    (append-bytes (take a s) (edged s a p q d t ++ drop t s) (take-bytes a s (c .bytes)) (append-bytes (edged s a p q d t) (drop t s) b (drop-bytes t s (c .bytes)))))
+    (whole s v first before a t e after c (replaced s a (edged s a p q d t) t) w)
 
 -- every message that has its own UNT, as has the one before it, if there is one, can be so chosen
-pub chosen : (s : List ℕ) (v : Service) (first : ℕ) (before : List Extent) (a e : ℕ) (after : List Extent) → Bytes s → openingOf s ≡ Opens v first
+pub chosen : (s : List ℕ) (v : Service) (first : ℕ) (before : List Extent) (a e : ℕ) (after : List Extent) → openingOf s ≡ Opens v first
     → messagesOf v s (bodyOf v s first) ≡ before ++ (closed a e ∷ after) → lastClosed true before ≡ true → (t : ℕ) × Chosen s v first before a t e after
-chosen s v first before a e after b o m c = let w = targets v s first before a e after m c in (w .0, record { bytes = b; opens = o; target = w .1 })
+chosen s v first before a e after o m c = let w = targets v s first before a e after m c in (w .0, record { opens = o; target = w .1 })

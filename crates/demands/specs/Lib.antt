@@ -11,5 +11,15 @@ pub mod Cases
 pub mod CasesLaws
 pub mod OneAnswer
 pub mod OneAnswerLaws
+pub mod Refusals
+pub mod RefusalsLaws
+pub mod Accepting
+pub mod AcceptingLaws
+pub mod Predecessor
+pub mod PredecessorLaws
+pub mod WrongReaders
+pub mod WrongReadersLaws
+pub mod Answering
+pub mod AnsweringLaws
 pub mod Demands
 pub mod DemandsMet

@@ -4,9 +4,9 @@ use Prim.Native.String.{String}
 use mathlib.Core.List.{List, [], _∷_, _++_}
 use Rattle.service.specs.Service.{plainService}
 use Rattle.chart.specs.Chart.{Reading}
-use Rattle.chart.specs.Table.{chart}
 use Rattle.chart.specs.Tags.{tagsOf}
-use Rattle.message.specs.Text.{text}
+use Rattle.chart.specs.Paymul.{chart}
+use Rattle.values.specs.Text.{text}
 use Rattle.report.specs.Reported.{Room, Applies, Lowest}
 
 -- lists that are long enough

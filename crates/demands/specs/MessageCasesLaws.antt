@@ -2,37 +2,40 @@
 use Prim.Native.Nat.{ℕ}
 use mathlib.Core.Path.{_≡_, refl, sym, _∙_, subst}
 use mathlib.Core.List.{List, [], _∷_}
-use Rattle.service.specs.Service.{plainService, isMark}
-use Rattle.segments.specs.Bytes.{classOf, endFrom, pastBreaks}
-use Rattle.segments.specs.Segments.{segmentAt}
-use Rattle.segments.specs.SegmentList.{pieces, segmentsFrom}
-use Rattle.parts.specs.Parts.{lex, elements, valueAt, valueOf}
+use Rattle.service.specs.Service.{plainService, isMark, isAlphanumeric, serves, among, distinct, fitting}
+use Rattle.segments.specs.Classes.{classOf}
+use Rattle.segments.specs.SegmentList.{pieces, startsFrom}
+use Rattle.parts.specs.Parts.{lex, elements, valueAt, valueOf, isStrange, strangeFrom}
 use Rattle.values.specs.Values.{valueFrom, valueIn, sameList, digits, numberOf, oneMore, units, fraction, codeFrom, isCapital, isCapitals}
+use Rattle.interchange.specs.Messages.{tagAt, closedAt}
 use Rattle.interchange.specs.Envelope.{isReference}
 use Rattle.faults.specs.declared.Fault.the-variants as fault
-use Rattle.tally.specs.Tallied.{isValueByte, firstBad}
 use Rattle.chart.specs.Chart.{Reading}
 use Rattle.chart.specs.Machine.{only, run, step, stepRows, free, freeRows, placed, choose, takes, owed, rowsBy}
-use Rattle.chart.specs.Table.{UNH, BGM, DTM, LIN, RFF, MOA, FII, SEQ, CNT, UNT, CUX, NAD, chart, table, rowOver, inside}
-use Rattle.chart.specs.Columns.{tagOf, parentOf, endOf, firstOf}
-use Rattle.chart.specs.Next.{nextOf, chain, chainFrom, findIn, nextRow, rowsOf}
-use Rattle.chart.specs.Tags.{startsIn, startsFrom, startsOf, tagsFrom, tagsOf}
+use Rattle.table.specs.Entries.{linesFrom, within}
+use Rattle.chart.specs.Table.{chartOf, rowOver, inside}
+use Rattle.chart.specs.Codes.{UNH, BGM, DTM, LIN, RFF, MOA, FII, SEQ, CNT, UNT, CUX, NAD}
+use Rattle.chart.specs.Columns.{parentOf, firstOf}
+use Rattle.chart.specs.Next.{nextOf, chainFrom, findIn, nextRow as nextRowOn}
+use Rattle.chart.specs.Tags.{tagsFrom, tagsOf}
+use Rattle.chart.specs.Paymul.{PAYMUL, chart, table, rowsOf}
 use Rattle.chart.proofs.Plain.{placed-one}
-use Rattle.chart.proofs.Whole.{chart-fine, reading-of}
-use Rattle.message.specs.Text.{text}
+use Rattle.chart.proofs.Whole.{fine, reading-of}
+use Rattle.chart.proofs.Paymul.{paymul-sound}
+use Rattle.values.specs.Text.{text}
 use Rattle.message.specs.Segs.{segsFrom, segsOf, those, until, stretches, each}
 use Rattle.message.specs.Rules.{some, failing, misnumbered, rule17, rule18, rule20, rule21, rule22, rule23, rule24, rule25, rule26, rule27, rule28, rule29, firstHolds, secondHolds, isBase, basesHold, sum, orderHolds, paymentHolds, detailsHold, paymul}
 use Rattle.message.specs.Faults.{rank, Told, tell, tellAll, least, leastOf}
-use Rattle.report.specs.Reported.{rule10, closed, headed, lines, fits, early, Lowest}
+use Rattle.report.specs.Reported.{bareOf, rule10, headed, lines, fits, early}
 use Rattle.report.specs.LateLaws.{late-none, late-lowest}
 use Rattle.demands.specs.MessageCases.{room, Holds, Gives, joined, exchange, unnamed, counted, Row9, Row10, Row11}
 
 -- ---- a message with these tags, whose rows are these
-module _ (m ts ns : List ℕ) (t : tagsOf plainService m ≡ ts) (p : run ts (only chart) 0 ≡ placed) (r : rowsOf ts ≡ ns) (e : tellAll (early plainService m (segmentsFrom plainService m 0) room) ≡ []) where
+module _ (m ts ns : List ℕ) (t : tagsOf plainService m ≡ ts) (p : run ts (only chart) 0 ≡ placed) (r : rowsOf ts ≡ ns) (e : tellAll (early (bareOf plainService m) room) ≡ []) where
   reads : Reading chart (tagsOf plainService m) ns
   reads =
-      let w = placed-one chart ts chart-fine p in
-      subst (λ (l : List ℕ). Reading chart l ns) (sym t) (subst (λ (l : List ℕ). Reading chart ts l) r (reading-of ts (w .0) (w .1)))
+      let w = placed-one chart ts (fine PAYMUL paymul-sound) p in
+      subst (λ (l : List ℕ). Reading chart l ns) (sym t) (subst (λ (l : List ℕ). Reading chart ts l) r (reading-of PAYMUL paymul-sound ts (w .0) (w .1)))
 
   holds : leastOf (tellAll (paymul (segsOf plainService m ns))) ≡ fault.None → Holds m
   holds h = record { rows = ns; reading = reads; free = late-none plainService m room ns reads e h }
@@ -44,44 +47,48 @@ module _ (m ts ns : List ℕ) (t : tagsOf plainService m ≡ ts) (p : run ts (on
 abbrev tags9 : List ℕ
 tags9 = UNH ∷ BGM ∷ DTM ∷ LIN ∷ DTM ∷ RFF ∷ MOA ∷ CUX ∷ FII ∷ SEQ ∷ MOA ∷ RFF ∷ NAD ∷ CNT ∷ UNT ∷ []
 
-abbrev rows9 : List ℕ
+abbrev pub rows9 : List ℕ
 rows9 = 1 ∷ 2 ∷ 3 ∷ 17 ∷ 18 ∷ 19 ∷ 23 ∷ 24 ∷ 28 ∷ 50 ∷ 51 ∷ 53 ∷ 61 ∷ 108 ∷ 112 ∷ []
 
 run9 : run tags9 (only chart) 0 ≡ placed
-unfolding chart table rowOver inside run step stepRows free freeRows choose takes owed
+unfolding PAYMUL table linesFrom within text chartOf rowOver inside run step stepRows free freeRows choose takes owed
 run9 = refl
 
 place9 : rowsOf tags9 ≡ rows9
-unfolding rowsBy nextRow chain chainFrom findIn nextOf tagOf parentOf table firstOf endOf
+unfolding PAYMUL table linesFrom within text rowsBy nextRowOn chainFrom findIn nextOf parentOf firstOf
 place9 = refl
 
 tags-eur : tagsOf plainService (exchange "MOA+57:100:EUR'") ≡ tags9
-unfolding joined text startsIn startsFrom tagsFrom segmentAt endFrom classOf pastBreaks lex valueOf codeFrom
+unfolding joined text startsFrom pieces tagsFrom classOf lex valueOf codeFrom
 tags-eur = refl
 
-early-eur : tellAll (early plainService (exchange "MOA+57:100:EUR'") (segmentsFrom plainService (exchange "MOA+57:100:EUR'") 0) room) ≡ []
-unfolding joined text pieces classOf lex valueOf elements valueAt codeFrom isValueByte firstBad isReference rule10 closed headed lines fits early tell tellAll
+early-eur : tellAll (early (bareOf plainService (exchange "MOA+57:100:EUR'")) room) ≡ []
+unfolding joined text serves isAlphanumeric among distinct fitting pieces classOf lex valueOf elements valueAt sameList isStrange strangeFrom tagAt closedAt isReference rule10 headed lines fits early tell tellAll
 early-eur = refl
 
 late-eur : leastOf (tellAll (paymul (segsOf plainService (exchange "MOA+57:100:EUR'") rows9))) ≡ fault.None
-unfolding joined text startsIn startsFrom segmentAt endFrom classOf pastBreaks lex elements valueAt segsFrom codeFrom sameList digits numberOf oneMore isMark units fraction isCapital isCapitals those until stretches each some failing misnumbered rule17 rule18 rule20 rule21 rule22 rule23 rule24 rule25 rule26 rule27 rule28 rule29 firstHolds secondHolds isBase basesHold sum orderHolds paymentHolds detailsHold rank tell tellAll least leastOf
+unfolding joined text startsFrom pieces classOf lex elements valueAt segsFrom codeFrom sameList digits numberOf oneMore isMark units fraction isCapital isCapitals those until stretches each some failing misnumbered rule17 rule18 rule20 rule21 rule22 rule23 rule24 rule25 rule26 rule27 rule28 rule29 firstHolds secondHolds isBase basesHold sum orderHolds paymentHolds detailsHold rank tell tellAll least leastOf
 late-eur = refl
 
 tags-usd : tagsOf plainService (exchange "MOA+57:100:USD'") ≡ tags9
-unfolding joined text startsIn startsFrom tagsFrom segmentAt endFrom classOf pastBreaks lex valueOf codeFrom
+unfolding joined text startsFrom pieces tagsFrom classOf lex valueOf codeFrom
 tags-usd = refl
 
-early-usd : tellAll (early plainService (exchange "MOA+57:100:USD'") (segmentsFrom plainService (exchange "MOA+57:100:USD'") 0) room) ≡ []
-unfolding joined text pieces classOf lex valueOf elements valueAt codeFrom isValueByte firstBad isReference rule10 closed headed lines fits early tell tellAll
+early-usd : tellAll (early (bareOf plainService (exchange "MOA+57:100:USD'")) room) ≡ []
+unfolding joined text serves isAlphanumeric among distinct fitting pieces classOf lex valueOf elements valueAt sameList isStrange strangeFrom tagAt closedAt isReference rule10 headed lines fits early tell tellAll
 early-usd = refl
 
 late-usd : leastOf (tellAll (paymul (segsOf plainService (exchange "MOA+57:100:USD'") rows9))) ≡ fault.At 25 8
-unfolding joined text startsIn startsFrom segmentAt endFrom classOf pastBreaks lex elements valueAt segsFrom codeFrom sameList digits numberOf oneMore isMark units fraction isCapital isCapitals those until stretches each some failing misnumbered rule17 rule18 rule20 rule21 rule22 rule23 rule24 rule25 rule26 rule27 rule28 rule29 firstHolds secondHolds isBase basesHold sum orderHolds paymentHolds detailsHold rank tell tellAll least leastOf
+unfolding joined text startsFrom pieces classOf lex elements valueAt segsFrom codeFrom sameList digits numberOf oneMore isMark units fraction isCapital isCapitals those until stretches each some failing misnumbered rule17 rule18 rule20 rule21 rule22 rule23 rule24 rule25 rule26 rule27 rule28 rule29 firstHolds secondHolds isBase basesHold sum orderHolds paymentHolds detailsHold rank tell tellAll least leastOf
 late-usd = refl
 
 pub nine : Row9
 nine =
     (holds (exchange "MOA+57:100:EUR'") tags9 rows9 tags-eur run9 place9 early-eur late-eur, gives (exchange "MOA+57:100:USD'") tags9 rows9 tags-usd run9 place9 early-usd 25 8 late-usd)
+
+-- its reading
+pub read9 : Reading chart (tagsOf plainService (exchange "MOA+57:100:EUR'")) rows9
+read9 = reads (exchange "MOA+57:100:EUR'") tags9 rows9 tags-eur run9 place9 early-eur
 
 -- ---- row 10
 abbrev tags10 : List ℕ
@@ -91,35 +98,35 @@ abbrev rows10 : List ℕ
 rows10 = 1 ∷ 2 ∷ 3 ∷ 17 ∷ 18 ∷ 19 ∷ 23 ∷ 28 ∷ 32 ∷ 50 ∷ 51 ∷ 53 ∷ 61 ∷ 108 ∷ 112 ∷ []
 
 run10 : run tags10 (only chart) 0 ≡ placed
-unfolding chart table rowOver inside run step stepRows free freeRows choose takes owed
+unfolding PAYMUL table linesFrom within text chartOf rowOver inside run step stepRows free freeRows choose takes owed
 run10 = refl
 
 place10 : rowsOf tags10 ≡ rows10
-unfolding rowsBy nextRow chain chainFrom findIn nextOf tagOf parentOf table firstOf endOf
+unfolding PAYMUL table linesFrom within text rowsBy nextRowOn chainFrom findIn nextOf parentOf firstOf
 place10 = refl
 
 tags-pl : tagsOf plainService (unnamed "NAD+PL+++A'") ≡ tags10
-unfolding joined text startsIn startsFrom tagsFrom segmentAt endFrom classOf pastBreaks lex valueOf codeFrom
+unfolding joined text startsFrom pieces tagsFrom classOf lex valueOf codeFrom
 tags-pl = refl
 
-early-pl : tellAll (early plainService (unnamed "NAD+PL+++A'") (segmentsFrom plainService (unnamed "NAD+PL+++A'") 0) room) ≡ []
-unfolding joined text pieces classOf lex valueOf elements valueAt codeFrom isValueByte firstBad isReference rule10 closed headed lines fits early tell tellAll
+early-pl : tellAll (early (bareOf plainService (unnamed "NAD+PL+++A'")) room) ≡ []
+unfolding joined text serves isAlphanumeric among distinct fitting pieces classOf lex valueOf elements valueAt sameList isStrange strangeFrom tagAt closedAt isReference rule10 headed lines fits early tell tellAll
 early-pl = refl
 
 late-pl : leastOf (tellAll (paymul (segsOf plainService (unnamed "NAD+PL+++A'") rows10))) ≡ fault.None
-unfolding joined text startsIn startsFrom segmentAt endFrom classOf pastBreaks lex elements valueAt segsFrom codeFrom sameList digits numberOf oneMore isMark units fraction isCapital isCapitals those until stretches each some failing misnumbered rule17 rule18 rule20 rule21 rule22 rule23 rule24 rule25 rule26 rule27 rule28 rule29 firstHolds secondHolds isBase basesHold sum orderHolds paymentHolds detailsHold rank tell tellAll least leastOf
+unfolding joined text startsFrom pieces classOf lex elements valueAt segsFrom codeFrom sameList digits numberOf oneMore isMark units fraction isCapital isCapitals those until stretches each some failing misnumbered rule17 rule18 rule20 rule21 rule22 rule23 rule24 rule25 rule26 rule27 rule28 rule29 firstHolds secondHolds isBase basesHold sum orderHolds paymentHolds detailsHold rank tell tellAll least leastOf
 late-pl = refl
 
 tags-oy : tagsOf plainService (unnamed "NAD+OY+++A'") ≡ tags10
-unfolding joined text startsIn startsFrom tagsFrom segmentAt endFrom classOf pastBreaks lex valueOf codeFrom
+unfolding joined text startsFrom pieces tagsFrom classOf lex valueOf codeFrom
 tags-oy = refl
 
-early-oy : tellAll (early plainService (unnamed "NAD+OY+++A'") (segmentsFrom plainService (unnamed "NAD+OY+++A'") 0) room) ≡ []
-unfolding joined text pieces classOf lex valueOf elements valueAt codeFrom isValueByte firstBad isReference rule10 closed headed lines fits early tell tellAll
+early-oy : tellAll (early (bareOf plainService (unnamed "NAD+OY+++A'")) room) ≡ []
+unfolding joined text serves isAlphanumeric among distinct fitting pieces classOf lex valueOf elements valueAt sameList isStrange strangeFrom tagAt closedAt isReference rule10 headed lines fits early tell tellAll
 early-oy = refl
 
 late-oy : leastOf (tellAll (paymul (segsOf plainService (unnamed "NAD+OY+++A'") rows10))) ≡ fault.At 27 4
-unfolding joined text startsIn startsFrom segmentAt endFrom classOf pastBreaks lex elements valueAt segsFrom codeFrom sameList digits numberOf oneMore isMark units fraction isCapital isCapitals those until stretches each some failing misnumbered rule17 rule18 rule20 rule21 rule22 rule23 rule24 rule25 rule26 rule27 rule28 rule29 firstHolds secondHolds isBase basesHold sum orderHolds paymentHolds detailsHold rank tell tellAll least leastOf
+unfolding joined text startsFrom pieces classOf lex elements valueAt segsFrom codeFrom sameList digits numberOf oneMore isMark units fraction isCapital isCapitals those until stretches each some failing misnumbered rule17 rule18 rule20 rule21 rule22 rule23 rule24 rule25 rule26 rule27 rule28 rule29 firstHolds secondHolds isBase basesHold sum orderHolds paymentHolds detailsHold rank tell tellAll least leastOf
 late-oy = refl
 
 pub ten : Row10
@@ -130,41 +137,44 @@ ten =
 abbrev tags11 : List ℕ
 tags11 = UNH ∷ BGM ∷ DTM ∷ LIN ∷ DTM ∷ RFF ∷ MOA ∷ FII ∷ SEQ ∷ MOA ∷ RFF ∷ NAD ∷ SEQ ∷ MOA ∷ RFF ∷ NAD ∷ LIN ∷ DTM ∷ RFF ∷ MOA ∷ FII ∷ SEQ ∷ MOA ∷ RFF ∷ NAD ∷ CNT ∷ UNT ∷ []
 
-abbrev rows11 : List ℕ
+abbrev pub rows11 : List ℕ
 rows11 = 1 ∷ 2 ∷ 3 ∷ 17 ∷ 18 ∷ 19 ∷ 23 ∷ 28 ∷ 50 ∷ 51 ∷ 53 ∷ 61 ∷ 50 ∷ 51 ∷ 53 ∷ 61 ∷ 17 ∷ 18 ∷ 19 ∷ 23 ∷ 28 ∷ 50 ∷ 51 ∷ 53 ∷ 61 ∷ 108 ∷ 112 ∷ []
 
 run11 : run tags11 (only chart) 0 ≡ placed
-unfolding chart table rowOver inside run step stepRows free freeRows choose takes owed
+unfolding PAYMUL table linesFrom within text chartOf rowOver inside run step stepRows free freeRows choose takes owed
 run11 = refl
 
 place11 : rowsOf tags11 ≡ rows11
-unfolding rowsBy nextRow chain chainFrom findIn nextOf tagOf parentOf table firstOf endOf
+unfolding PAYMUL table linesFrom within text rowsBy nextRowOn chainFrom findIn nextOf parentOf firstOf
 place11 = refl
 
 tags-again : tagsOf plainService (counted "SEQ++1'") ≡ tags11
-unfolding joined text startsIn startsFrom tagsFrom segmentAt endFrom classOf pastBreaks lex valueOf codeFrom
+unfolding joined text startsFrom pieces tagsFrom classOf lex valueOf codeFrom
 tags-again = refl
 
-early-again : tellAll (early plainService (counted "SEQ++1'") (segmentsFrom plainService (counted "SEQ++1'") 0) room) ≡ []
-unfolding joined text pieces classOf lex valueOf elements valueAt codeFrom isValueByte firstBad isReference rule10 closed headed lines fits early tell tellAll
+early-again : tellAll (early (bareOf plainService (counted "SEQ++1'")) room) ≡ []
+unfolding joined text serves isAlphanumeric among distinct fitting pieces classOf lex valueOf elements valueAt sameList isStrange strangeFrom tagAt closedAt isReference rule10 headed lines fits early tell tellAll
 early-again = refl
 
 late-again : leastOf (tellAll (paymul (segsOf plainService (counted "SEQ++1'") rows11))) ≡ fault.None
-unfolding joined text startsIn startsFrom segmentAt endFrom classOf pastBreaks lex elements valueAt segsFrom codeFrom sameList digits numberOf oneMore isMark units fraction isCapital isCapitals those until stretches each some failing misnumbered rule17 rule18 rule20 rule21 rule22 rule23 rule24 rule25 rule26 rule27 rule28 rule29 firstHolds secondHolds isBase basesHold sum orderHolds paymentHolds detailsHold rank tell tellAll least leastOf
+unfolding joined text startsFrom pieces classOf lex elements valueAt segsFrom codeFrom sameList digits numberOf oneMore isMark units fraction isCapital isCapitals those until stretches each some failing misnumbered rule17 rule18 rule20 rule21 rule22 rule23 rule24 rule25 rule26 rule27 rule28 rule29 firstHolds secondHolds isBase basesHold sum orderHolds paymentHolds detailsHold rank tell tellAll least leastOf
 late-again = refl
 
 tags-on : tagsOf plainService (counted "SEQ++3'") ≡ tags11
-unfolding joined text startsIn startsFrom tagsFrom segmentAt endFrom classOf pastBreaks lex valueOf codeFrom
+unfolding joined text startsFrom pieces tagsFrom classOf lex valueOf codeFrom
 tags-on = refl
 
-early-on : tellAll (early plainService (counted "SEQ++3'") (segmentsFrom plainService (counted "SEQ++3'") 0) room) ≡ []
-unfolding joined text pieces classOf lex valueOf elements valueAt codeFrom isValueByte firstBad isReference rule10 closed headed lines fits early tell tellAll
+early-on : tellAll (early (bareOf plainService (counted "SEQ++3'")) room) ≡ []
+unfolding joined text serves isAlphanumeric among distinct fitting pieces classOf lex valueOf elements valueAt sameList isStrange strangeFrom tagAt closedAt isReference rule10 headed lines fits early tell tellAll
 early-on = refl
 
 late-on : leastOf (tellAll (paymul (segsOf plainService (counted "SEQ++3'") rows11))) ≡ fault.At 21 22
-unfolding joined text startsIn startsFrom segmentAt endFrom classOf pastBreaks lex elements valueAt segsFrom codeFrom sameList digits numberOf oneMore isMark units fraction isCapital isCapitals those until stretches each some failing misnumbered rule17 rule18 rule20 rule21 rule22 rule23 rule24 rule25 rule26 rule27 rule28 rule29 firstHolds secondHolds isBase basesHold sum orderHolds paymentHolds detailsHold rank tell tellAll least leastOf
+unfolding joined text startsFrom pieces classOf lex elements valueAt segsFrom codeFrom sameList digits numberOf oneMore isMark units fraction isCapital isCapitals those until stretches each some failing misnumbered rule17 rule18 rule20 rule21 rule22 rule23 rule24 rule25 rule26 rule27 rule28 rule29 firstHolds secondHolds isBase basesHold sum orderHolds paymentHolds detailsHold rank tell tellAll least leastOf
 late-on = refl
 
 pub eleven : Row11
 eleven =
     (holds (counted "SEQ++1'") tags11 rows11 tags-again run11 place11 early-again late-again, gives (counted "SEQ++3'") tags11 rows11 tags-on run11 place11 early-on 21 22 late-on)
+
+pub read11 : Reading chart (tagsOf plainService (counted "SEQ++1'")) rows11
+read11 = reads (counted "SEQ++1'") tags11 rows11 tags-again run11 place11 early-again

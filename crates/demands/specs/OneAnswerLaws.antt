@@ -1,46 +1,96 @@
--- No call has a second answer. Assumes nothing.
+-- No public function has a second answer. Assumes nothing.
 use Prim.Native.Nat.{ℕ}
-use mathlib.Core.Path.{_≡_, ap, ap₂}
+use mathlib.Core.Path.{_≡_, ap₂}
 use mathlib.Core.List.{List}
 use Rattle.service.specs.declared.Service.{Service}
 use Rattle.service.specs.Unique.{only}
+use Rattle.parts.specs.Unique.{only-component}
+use Rattle.chart.specs.declared.Cursor.{Cursor}
+use Rattle.chart.specs.Cursor.{CursorIs}
+use Rattle.chart.specs.Paymul.{PAYMUL}
 use Rattle.chart.proofs.Answers.{one-answer}
-use Rattle.report.specs.Reported.{Reported}
-use Rattle.report.specs.ReportedLaws.{Given, one-report}
-use Rattle.walk.specs.Walks.{Walks}
-use Rattle.walk.specs.WalksLaws.{Answer}
-use Rattle.walk.specs.WalksLaws as walk
-use Rattle.twineherald.specs.declared.ReportNumbers.{ReportNumbers}
-use Rattle.twineherald.specs.declared.StepNumbers.{StepNumbers}
-use Rattle.twineherald.specs.Numbers.{Stepped, Checked}
-use Rattle.twineherald.specs.NumbersLaws.{Numbers}
-use Rattle.twineherald.specs.NumbersLaws as numbers
-use Rattle.demands.specs.OneAnswer.{OnlyWith, left, filled, OneAnswer}
+use Rattle.amounts.specs.StepLaws.{one-sums}
+use Rattle.report.specs.ReportedLaws.{one-report}
+use Rattle.walk.specs.WalksLaws.{one-walk}
+use Rattle.twineherald.specs.NumbersLaws.{one-step, one-check}
+use Rattle.lines.specs.Lines.{messageLine, endLine, openLine}
+use Rattle.demands.specs.OneAnswer.{OnlyLine, filled, OneAnswer}
 
-one-check : (v : Service) (m : List ℕ) → OnlyWith (Reported v m)
-one-check v m r s t r1 s1 t1 r2 s2 t2 x y p q = ap (λ (g : Given). left (g .report) (g .rows) (g .starts) (g .totals)) (one-report v m r s t r1 s1 t1 r2 s2 t2 x y p q)
+one-cursor : (v : Service) (m : List ℕ) (at : ℕ) (x y : Cursor) → CursorIs v m at x → CursorIs v m at y → x ≡ y
+one-cursor v m at x y p q =
+    let a = only (p .at) (q .at) in
+    let b = only (p .tag) (q .tag) in
+    λ i. record { at = a i; tag = b i }
 
-one-walk : (b : List ℕ) (at : ℕ) → OnlyWith (Walks b at)
-one-walk b at r s t r1 s1 t1 r2 s2 t2 x y p q = ap (λ (g : Answer). left (g .walked) (g .rows) (g .starts) (g .totals)) (walk.one-walk b at r s t r1 s1 t1 r2 s2 t2 x y p q)
-
-one-step : (b : List ℕ) (at : ℕ) → OnlyWith (λ r r′ s s′ t t′ (x : StepNumbers). Stepped b at x r r′ s s′ t t′)
-one-step b at r s t r1 s1 t1 r2 s2 t2 x y p q = ap (λ (g : Numbers StepNumbers). left (g .numbers) (g .rows) (g .starts) (g .totals)) (numbers.one-step b at r s t r1 s1 t1 r2 s2 t2 x y p q)
-
-one-numbers : (h m : List ℕ) → OnlyWith (λ r r′ s s′ t t′ (x : ReportNumbers). Checked h m x r r′ s s′ t t′)
-one-numbers h m r s t r1 s1 t1 r2 s2 t2 x y p q = ap (λ (g : Numbers ReportNumbers). left (g .numbers) (g .rows) (g .starts) (g .totals)) (numbers.one-check h m r s t r1 s1 t1 r2 s2 t2 x y p q)
+one-line : (l : List ℕ) → OnlyLine l
+one-line l o o1 o2 x y p q = ap₂ filled (only (p .answer) (q .answer)) (only (p .room) (q .room))
 
 pub one : OneAnswer
 one = record {
-  opening = λ b x y p q. only p q;
-  finding = λ v b at x y p q. only p q;
-  closing = λ b x y p q. only p q;
-  placing = one-answer;
-  checking = one-check;
-  walking = one-walk;
-  rewriting = λ b o o1 o2 x y p i q j. ap₂ filled (only p q) (only i j);
-  c-open = λ b x y p q. only p q;
-  c-walk = one-step;
-  c-check = one-numbers;
-  c-close = λ b x y p q. only p q;
-  c-rewrite = λ b o o1 o2 x y p q. ap₂ filled (only (p .numbers) (q .numbers)) (only (p .room) (q .room));
+  service-is-mark = λ b x y p q. only p q;
+  service-characters-of = λ s x y p q. only p q;
+  service-fits = λ v x y p q. only p q;
+  segments-classify = λ v b x y p q. only p q;
+  segments-skip-breaks = λ s at x y p q. only p q;
+  segments-segment-at = λ s at v x y p q. only p q;
+  parts-token-at = λ s i v x y p q. only p q;
+  parts-component = λ s at v e c x y. only-component v s at e c x y;
+  values-same-value = λ s a b v x y p q. only p q;
+  values-value-len = λ s at v x y p q. only p q;
+  values-code-at = λ s at v x y p q. only p q;
+  values-amount-at = λ s at v x y p q. only p q;
+  values-is-capitals = λ code x y p q. only p q;
+  values-code-in = λ s at v e c x y p q. only p q;
+  values-number-is = λ s at v e c n x y p q. only p q;
+  interchange-refuse = λ number x y p q. only p q;
+  interchange-is-reference = λ n x y p q. only p q;
+  interchange-open = λ s x y p q. only p q;
+  interchange-find = λ s at v x y p q. only p q;
+  interchange-close = λ s x y p q. only p q;
+  faults-earlier = λ a b x y p q. only p q;
+  faults-unless = λ holds at x y p q. only p q;
+  faults-keep = λ first holds at x y p q. only p q;
+  faults-before = λ number first other x y p q. only p q;
+  lent-low16 = λ n x y p q. only p q;
+  lent-low32 = λ n x y p q. only p q;
+  lent-put = λ o o1 o2 j b x y p i q k. ap₂ filled (only i k) (only p q);
+  truth-both = λ a b x y p q. only p q;
+  truth-either = λ a b x y p q. only p q;
+  truth-isnt = λ a x y p q. only p q;
+  paymul-chart = λ x y p q. only p q;
+  chart-cursor-at = λ m at v x y. one-cursor v m at x y;
+  chart-step = λ m v c x y p q. only (p .is) (q .is);
+  chart-place = λ m v. one-answer PAYMUL v m;
+  chart-next-row = λ t prev tag x y p q. only p q;
+  tally-tally-of = λ m v x y p q. only p q;
+  tally-segments-before = λ m v at x y p q. only p q;
+  tally-segment-start = λ m v before x y p q. only p q;
+  numbering-start = λ x y p q. only p q;
+  numbering-step = λ st m v at nth row orders x y p q. only p q;
+  amounts-start = λ x y p q. only p q;
+  amounts-step = λ st m v at nth row x y p q. one-sums v m x y (only (p .0) (q .0)) (only (p .1) (q .1));
+  amounts-close = λ st m v x y p q. only p q;
+  parties-start = λ x y p q. only p q;
+  parties-step = λ st m v at nth row x y p q. only p q;
+  parties-close = λ st x y p q. only p q;
+  details-start = λ x y p q. only p q;
+  details-step = λ st m v at nth row x y p q. only p q;
+  details-close = λ st x y p q. only p q;
+  trailer-start = λ x y p q. only p q;
+  trailer-step = λ st m v at nth row segments x y p q. only p q;
+  rules-judge = λ m v t n k x y p q. only p q;
+  listing-put-segments-rows = λ m v n r s x y p q. only p q;
+  listing-put-segments-starts = λ m v n r s x y p q. only p q;
+  listing-put-totals = λ m v n t x y p q. only p q;
+  report-check = λ m v. one-report v m;
+  walk-walk = one-walk;
+  rewrite-rewrite = λ s o o1 o2 x y p i q j. ap₂ filled (only p q) (only i j);
+  lines-message-line = λ place told. one-line (messageLine place told);
+  lines-end-line = λ messages accepted strays closing. one-line (endLine messages accepted strays closing);
+  lines-open-line = λ number. one-line (openLine number);
+  twineherald-open = λ b x y p q. only p q;
+  twineherald-walk = one-step;
+  twineherald-check = one-check;
+  twineherald-close = λ b x y p q. only p q;
+  twineherald-rewrite = λ b o o1 o2 x y p q. ap₂ filled (only (p .numbers) (q .numbers)) (only (p .room) (q .room));
 }

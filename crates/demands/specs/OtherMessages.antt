@@ -4,20 +4,19 @@ use mathlib.Core.Path.{_≡_}
 use mathlib.Core.List.{List, [], _∷_, _++_, map}
 use lib.ListN.{length}
 use Rattle.service.specs.declared.Service.{Service}
-use Rattle.values.specs.Numbers.{Bytes}
 use Rattle.interchange.specs.declared.Opening.the-variants.{Opens}
 use Rattle.interchange.specs.Messages.{Extent, startsAt, endsAt}
 use Rattle.interchange.specs.Envelope.{openingOf, bodyOf}
 use Rattle.interchange.specs.Damage.{Target, replaced, shifted}
-use Rattle.report.specs.ReportedLaws.{Given}
+use Rattle.lent.specs.Lists.{Lists, Left}
+use Rattle.report.specs.declared.Report.{Report}
 use Rattle.walk.specs.declared.Walked.the-variants.{Message}
 use Rattle.walk.specs.Walks.{Walks}
-use Rattle.demands.specs.Runs.{Lent, Visit, Run, Steps, Owned, Over, moved}
+use Rattle.demands.specs.Runs.{Visit, Run, Steps, Owned, Over, moved}
 
 -- "Take an interchange that opens and a message in it that has its own UNT, as has the message before it, if there is one": the message from a up to
 -- e, with the messages before and after it; t is the terminator before its UNT
 pub record Chosen (s : List ℕ) (v : Service) (first : ℕ) (before : List Extent) (a t e : ℕ) (after : List Extent) : Type 0 where
-  pub bytes : Bytes s
   pub opens : openingOf s ≡ Opens v first
   pub target : Target v s (bodyOf v s first) before a t e after
 
@@ -27,7 +26,6 @@ pub record Damaged (s : List ℕ) (a t p q : ℕ) (d s′ : List ℕ) : Type 0 w
   pub low : a ≤ p
   pub order : p ≤ q
   pub high : q ≤ t
-  pub bytes : Bytes d
   pub result : s′ ≡ replaced s p d q
   pub short : length s′ ≤ 1048576
 
@@ -48,8 +46,8 @@ pub record SameOthers (n n′ a : ℕ) (before after : List Extent) (l l′ : Li
 -- and leave the same in the lists
 abbrev pub SameReport : List ℕ → List ℕ → Extent → Extent → Type 0
 SameReport s s′ m m′ =
-    (x : Lent) (at at′ : ℕ) (g g′ : Given) → Walks s at (x .rows) (g .rows) (x .starts) (g .starts) (x .totals) (g .totals) (Message (startsAt m) (endsAt m) (g .report))
-    → Walks s′ at′ (x .rows) (g′ .rows) (x .starts) (g′ .starts) (x .totals) (g′ .totals) (Message (startsAt m′) (endsAt m′) (g′ .report)) → g ≡ g′
+    (x : Lists) (at at′ : ℕ) (g g′ : Left Report) → Walks s at x (g .lists) (Message (startsAt m) (endsAt m) (g .answer))
+    → Walks s′ at′ x (g′ .lists) (Message (startsAt m′) (endsAt m′) (g′ .answer)) → g ≡ g′
 
 -- one by one
 pub data SameReports (s s′ : List ℕ) : List Extent → List Extent → Type 0 where
@@ -67,8 +65,8 @@ pub record Unharmed (v : Service) (s s′ : List ℕ) (first a : ℕ) (before af
   -- each is found at its own first byte too
   pub owned : Owned s′ (before ++ (between ++ map (shifted (length s) (length s′)) after))
   -- whatever the calls give, it is what demand 2 gives to each message's own bytes
-  pub told : (x : Lent) (l : List Visit) → Run s′ x 0 l → Over v s′ x (before ++ (between ++ map (shifted (length s) (length s′)) after)) l
+  pub told : (x : Lists) (l : List Visit) → Run s′ x 0 l → Over v s′ x (before ++ (between ++ map (shifted (length s) (length s′)) after)) l
   -- and for the other messages it is what they gave before the damage: call by call, and over two whole walks
   pub each-before : SameReports s s′ before before
   pub each-after : SameReports s s′ after (map (shifted (length s) (length s′)) after)
-  pub same : (x : Lent) (l l′ : List Visit) → Run s x 0 l → Run s′ x 0 l′ → SameOthers (length s) (length s′) a before after l l′
+  pub same : (x : Lists) (l l′ : List Visit) → Run s x 0 l → Run s′ x 0 l′ → SameOthers (length s) (length s′) a before after l l′

@@ -7,12 +7,9 @@ use mathlib.Core.List.{List, [], _∷_, _++_, map}
 use lib.ListN.{length}
 use borrow.Author.Tests.{lt-ltb, le-ltb}
 use Rattle.service.specs.declared.Service.{Service}
-use Rattle.service.specs.declared.Characters.the-variants.{Fit}
-use Rattle.service.specs.Service.{charactersOf}
-use Rattle.segments.specs.SegmentList.{Piece, finished, segmentsFrom, segmentsAfter}
+use Rattle.segments.specs.SegmentList.{Piece, finished, segmentsAfter}
 use Rattle.segments.specs.ListLaws.{segments-after}
 use Rattle.segments.specs.ClearLaws.{passed, upto-start}
-use Rattle.interchange.specs.declared.Found.{Found}
 use Rattle.interchange.specs.declared.Found.the-variants as found
 use Rattle.interchange.specs.declared.Opening.the-variants.{Opens}
 use Rattle.interchange.specs.Messages.{Kind, head, trailer, last, other, cut, kindOf, Extent, closed, unclosed, startsAt, endsAt, extentOf, messagesBy, messagesOf, foundFrom}
@@ -26,17 +23,17 @@ use Rattle.interchange.specs.WalkLaws.{Placed}
 use Rattle.interchange.specs.WalkLaws as placed
 use Rattle.interchange.specs.WalkTheorems.{header, body-is}
 use Rattle.interchange.specs.Damage.{bytesOf, shifted}
-use Rattle.rewrite.specs.MessageLaws.{message-holds}
+use Rattle.interchange.specs.OwnLaws.{message-holds}
+use Rattle.lent.specs.Lists.{Lists}
 use Rattle.report.specs.declared.Report.{Report}
 use Rattle.report.specs.Reported.{Reported}
-use Rattle.report.specs.ReportedLaws.{Given, given, one-report}
+use Rattle.report.specs.ReportedLaws.{one-report}
 use Rattle.walk.specs.declared.Walked.{Walked}
 use Rattle.walk.specs.declared.Walked.the-variants as walked
-use Rattle.walk.specs.Frame.{Step, message, nothing, refused, stepBy, stepAt, stepWith, stepFrom}
+use Rattle.walk.specs.Frame.{message, nothing, refused, stepBy, stepAt, stepWith, stepFrom}
 use Rattle.walk.specs.Walks.{between, Walks as Stepping}
 use Rattle.walk.specs.Walks as stepping
-use Rattle.demands.specs.Runs.{Lent, Visit, Run, done, next, Steps, Owned, Told, Over, none, also, moved}
-use Rattle.demands.specs.Runs as runs
+use Rattle.demands.specs.Runs.{Visit, Run, done, next, Steps, Owned, Told, Over, none, also, moved}
 
 -- ---- messages lie within the bytes
 pub data Inside (n : ℕ) : List Extent → Type 0 where
@@ -87,22 +84,22 @@ module _ (s : List ℕ) (v : Service) (first : ℕ) (o : openingOf s ≡ Opens v
   owned (cons _ _ a b w) (walk.also m ms e r) = also m ms (step-in (startsAt m) a ∙ ap stepBy e) (owned w r)
 
   -- ---- what the calls give
-  pub step-message : {at : ℕ} {r r′ k k′ t t′ : List ℕ} {y : Walked} → Stepping s at r r′ k k′ t t′ y → (a e : ℕ) (x : Report) → y ≡ walked.Message a e x
-      → (stepFrom s at ≡ message a e) × Reported v (between s a e) r r′ k k′ t t′ x
-  step-message {at} {r} {r′} {k} {k′} {t} {t′} (stepping.walks-message v′ una b c z n p q) a e x f =
+  pub step-message : {at : ℕ} {k k′ : Lists} {y : Walked} → Stepping s at k k′ y → (a e : ℕ) (x : Report) → y ≡ walked.Message a e x
+      → (stepFrom s at ≡ message a e) × Reported v (between s a e) k k′ x
+  step-message (stepping.walks-message v′ una b c z n p q) a e x f =
       let i : b ≡ a = cc in
       let j : c ≡ e = cc in
       let l : z ≡ x = cc in
       let g = opened s v first o .named in
       let u : v′ ≡ v = cc in
       (sym p ∙ ap₂ message i j, rw (← u, ← i, ← j, ← l) q)
-  step-message (stepping.walks-nothing p q u w) a e x f = absurd (let z : _≡_ {A = ℕ} 0 1 = cc in omega arith)
-  step-message (stepping.walks-refused c p q u w) a e x f = absurd (let z : _≡_ {A = ℕ} 0 1 = cc in omega arith)
+  step-message (stepping.walks-nothing p q) a e x f = absurd (let z : _≡_ {A = ℕ} 0 1 = cc in omega arith)
+  step-message (stepping.walks-refused c p q) a e x f = absurd (let z : _≡_ {A = ℕ} 0 1 = cc in omega arith)
 
-  step-nothing : {at : ℕ} {r r′ k k′ t t′ : List ℕ} {y : Walked} → Stepping s at r r′ k k′ t t′ y → y ≡ walked.Nothing → stepFrom s at ≡ nothing
+  step-nothing : {at : ℕ} {k k′ : Lists} {y : Walked} → Stepping s at k k′ y → y ≡ walked.Nothing → stepFrom s at ≡ nothing
   step-nothing (stepping.walks-message v′ una b c z n p q) f = absurd (let z : _≡_ {A = ℕ} 0 1 = cc in omega arith)
-  step-nothing (stepping.walks-nothing p q u w) f = sym p
-  step-nothing (stepping.walks-refused c p q u w) f = absurd (let z : _≡_ {A = ℕ} 0 1 = cc in omega arith)
+  step-nothing (stepping.walks-nothing p q) f = sym p
+  step-nothing (stepping.walks-refused c p q) f = absurd (let z : _≡_ {A = ℕ} 0 1 = cc in omega arith)
 
   -- a step that finds a message, and what is found from there
   found-message : (at a e b c : ℕ) → stepFrom s at ≡ message a e → foundFrom v s at ≡ found.Message b c → (a ≡ b) × (e ≡ c)
@@ -136,26 +133,26 @@ module _ (s : List ℕ) (v : Service) (first : ℕ) (o : openingOf s ≡ Opens v
           let z : _≡_ {A = ℕ} 0 1 = cc in omega arith
 
   -- calls one after the other tell of exactly the messages that are found
-  pub run-over : (x : Lent) {at : ℕ} {ms : List Extent} {l : List Visit} → Walks v s at ms → Run s x at l → Over v s x ms l
-  run-over x (walk.done at e) (done _ r k t j) = none
-  run-over x (walk.done at e) (next _ w l j g) = absurd (let p = step-message j (w .start) (w .end) (w .given .report) refl in found-none at (w .start) (w .end) (p .0) e)
-  run-over x (walk.step at m ms e r) (done _ _ _ _ j) = absurd (none-found at (startsAt m) (endsAt m) (step-nothing j refl) e)
+  pub run-over : (x : Lists) {at : ℕ} {ms : List Extent} {l : List Visit} → Walks v s at ms → Run s x at l → Over v s x ms l
+  run-over x (walk.done at e) (done _ x′ j) = none
+  run-over x (walk.done at e) (next _ w l j g) = absurd (let p = step-message j (w .start) (w .end) (w .given .answer) refl in found-none at (w .start) (w .end) (p .0) e)
+  run-over x (walk.step at m ms e r) (done _ _ j) = absurd (none-found at (startsAt m) (endsAt m) (step-nothing j refl) e)
   run-over x (walk.step at m ms e r) (next _ w l j g) =
-      let p = step-message j (w .start) (w .end) (w .given .report) refl in
+      let p = step-message j (w .start) (w .end) (w .given .answer) refl in
       let q = found-message at (w .start) (w .end) (startsAt m) (endsAt m) (p .0) e in
       let a = q .0 in
       let b = q .1 in
       also m w ms l (record { start = a; end = b; report = rw (← a, ← b) (p .1) }) (run-over x r (subst (λ (n : ℕ). Run s x n l) b g))
 
 -- ---- one part of the messages after the other
-pub record Split (v : Service) (s : List ℕ) (x : Lent) (ms ns : List Extent) (l : List Visit) : Type 0 where
+pub record Split (v : Service) (s : List ℕ) (x : Lists) (ms ns : List Extent) (l : List Visit) : Type 0 where
   pub front : List Visit
   pub back : List Visit
   pub is : l ≡ front ++ back
   pub over-front : Over v s x ms front
   pub over-back : Over v s x ns back
 
-pub over-split : (v : Service) (s : List ℕ) (x : Lent) (ms ns : List Extent) {k : List Extent} {l : List Visit} → Over v s x k l → k ≡ ms ++ ns → Split v s x ms ns l
+pub over-split : (v : Service) (s : List ℕ) (x : Lists) (ms ns : List Extent) {k : List Extent} {l : List Visit} → Over v s x k l → k ≡ ms ++ ns → Split v s x ms ns l
 over-split v s x [] ns {k} {l} w e = record { front = []; back = l; is = refl; over-front = none; over-back = subst (λ (i : List Extent). Over v s x i l) e w }
 over-split v s x (m ∷ ms) ns none e = absurd (let z : _≡_ {A = ℕ} 0 1 = cc in omega arith)
 over-split v s x (m ∷ ms) ns (also m′ w k l t r) e =
@@ -182,11 +179,10 @@ ends-moved n n′ (closed a e) = refl
 ends-moved n n′ (unclosed a e) = refl
 
 -- the same bytes, the same lists: the same report
-module _ (v : Service) (s s′ : List ℕ) (x : Lent) where
+module _ (v : Service) (s s′ : List ℕ) (x : Lists) where
   same-given : (m m′ : Extent) (w w′ : Visit) → Told v s x m w → Told v s′ x m′ w′ → bytesOf s′ m′ ≡ bytesOf s m → w .given ≡ w′ .given
   same-given m m′ w w′ t t′ e =
-      one-report v (bytesOf s m) (x .rows) (x .starts) (x .totals) (w .given .rows) (w .given .starts) (w .given .totals) (w′ .given .rows) (w′ .given .starts) (w′ .given .totals) (w .given .report) (w′ .given .report)
-      (t .report) (rw (← e) (t′ .report))
+      one-report v (bytesOf s m) x (w .given .lists) (w′ .given .lists) (w .given .answer) (w′ .given .answer) (t .report) (rw (← e) (t′ .report))
 
   pub same-before : {ms : List Extent} {l l′ : List Visit} → Over v s x ms l → Over v s′ x ms l′ → map (bytesOf s′) ms ≡ map (bytesOf s) ms → l ≡ l′
   same-before none none e = refl

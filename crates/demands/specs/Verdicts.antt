@@ -1,21 +1,19 @@
 -- "A message keeps its refusal number and segment (offsets may move)": what is told of a message, its offsets aside.
-use Prim.Native.Nat.{ℕ, _≤_}
+use Prim.Native.Nat.{ℕ}
 use mathlib.Core.Path.{_≡_}
 use mathlib.Core.List.{List, [], _∷_, map}
-use lib.ListN.{length}
 use Rattle.service.specs.declared.Service.{Service}
 use Rattle.service.specs.Service.{plainService}
-use Rattle.interchange.specs.declared.Refusal.{Refusal}
 use Rattle.interchange.specs.Messages.{Extent, startsAt, endsAt, messagesOf}
 use Rattle.interchange.specs.Envelope.{bodyOf}
+use Rattle.lent.specs.Lists.{Lists, Left}
 use Rattle.report.specs.declared.Counts.{Counts}
 use Rattle.report.specs.declared.Report.{Report}
 use Rattle.report.specs.declared.Report.the-variants.{Accepted, Refused}
-use Rattle.report.specs.ReportedLaws.{Given}
 use Rattle.rewrite.specs.Plain.{rewritten}
 use Rattle.walk.specs.declared.Walked.the-variants.{Message}
 use Rattle.walk.specs.Walks.{Walks}
-use Rattle.demands.specs.Runs.{Lent, Visit, Run}
+use Rattle.demands.specs.Runs.{Visit, Run}
 
 -- acceptance with the counts, the rows and the totals as the lists hold them; or a refusal's number and segment
 pub data Verdict : Type 0 where
@@ -26,19 +24,19 @@ abbrev pub verdictBy : Report → List ℕ → List ℕ → Verdict
 verdictBy (Accepted c) rows totals = accepted c rows totals
 verdictBy (Refused f) rows totals = refused (f .number) (f .segment)
 
-abbrev pub verdictOf : Given → Verdict
-verdictOf g = verdictBy (g .report) (g .rows) (g .totals)
+abbrev pub verdictOf : Left Report → Verdict
+verdictOf g = verdictBy (g .answer) (g .lists .rows) (g .lists .totals)
 
 -- two whole walks with lists of the same content, over an interchange and over its plain bytes: as many messages, and the same verdicts in the same order
 abbrev pub SameVerdicts : List ℕ → Type 0
 SameVerdicts s =
-    (x : Lent) (l l′ : List Visit) → Run s x 0 l → Run (rewritten s) x 0 l′ → map (λ (w : Visit). verdictOf (w .given)) l ≡ map (λ (w : Visit). verdictOf (w .given)) l′
+    (x : Lists) (l l′ : List Visit) → Run s x 0 l → Run (rewritten s) x 0 l′ → map (λ (w : Visit). verdictOf (w .given)) l ≡ map (λ (w : Visit). verdictOf (w .given)) l′
 
 -- and call by call: a call that finds the message m of s, and one that finds the message m′ of its plain bytes, from whatever position
 abbrev pub SameVerdict : List ℕ → Extent → Extent → Type 0
 SameVerdict s m m′ =
-    (x : Lent) (at at′ : ℕ) (g g′ : Given) → Walks s at (x .rows) (g .rows) (x .starts) (g .starts) (x .totals) (g .totals) (Message (startsAt m) (endsAt m) (g .report))
-    → Walks (rewritten s) at′ (x .rows) (g′ .rows) (x .starts) (g′ .starts) (x .totals) (g′ .totals) (Message (startsAt m′) (endsAt m′) (g′ .report)) → verdictOf g ≡ verdictOf g′
+    (x : Lists) (at at′ : ℕ) (g g′ : Left Report) → Walks s at x (g .lists) (Message (startsAt m) (endsAt m) (g .answer))
+    → Walks (rewritten s) at′ x (g′ .lists) (Message (startsAt m′) (endsAt m′) (g′ .answer)) → verdictOf g ≡ verdictOf g′
 
 pub data EachVerdict (s : List ℕ) : List Extent → List Extent → Type 0 where
   none : EachVerdict s [] []

@@ -4,7 +4,9 @@ use mathlib.Core.Path.{_≡_, refl, sym, ap, _∙_}
 use mathlib.Core.List.{List, [], _∷_, _++_}
 use mathlib.Core.Bool.{Bool, true, false, not, _||_}
 use Rattle.segments.specs.Classes.{if}
-use Rattle.values.specs.Values.{codeOf}
+use Rattle.values.specs.Text.{text}
+use Rattle.values.specs.Values.{codeFrom, codeOf}
+use Rattle.values.specs.TextLaws.{says-code}
 use Rattle.faults.specs.declared.First.{First}
 use Rattle.faults.specs.declared.First.the-variants as first
 use Rattle.faults.specs.Firsts.{lesser}
@@ -55,8 +57,8 @@ neither false true c e = cc
 neither false false c e = e
 
 by-code : (l : List ℕ) (t d : Bool) → detailsHold l t d ≡ groupHolds (codeOf l) t d
-unfolding detailsHold groupHolds
-by-code l t d = refl
+unfolding detailsHold groupHolds text codeFrom
+by-code l t d = rw (says-code l "8" refl, says-code l "9" refl, says-code l "10" refl, says-code l "11" refl)
 
 tells28C : Tells level28C fault28C
 unfolding groupComes

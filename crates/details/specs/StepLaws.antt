@@ -12,7 +12,7 @@ use Rattle.faults.specs.declared.First.{First}
 use Rattle.faults.specs.declared.First.the-variants as first
 use Rattle.faults.specs.Firsts.{lesser, placeUnless}
 use Rattle.faults.specs.FirstsLaws.{lesser-last}
-use Rattle.message.specs.Text.{text}
+use Rattle.values.specs.Text.{text}
 use Rattle.message.specs.Segs.{segAt}
 use Rattle.message.specs.Run.{testStep, levelStep, close}
 use Rattle.message.specs.CountLaws.{someStep}
@@ -20,9 +20,6 @@ use Rattle.details.specs.declared.Common.{Common}
 use Rattle.details.specs.declared.Group.{Group}
 use Rattle.details.specs.declared.Details.{Details}
 use Rattle.details.specs.Steps.{commonOf, groupOf, commonInner, groupInner, commonComes, groupHolds, placeIf, groupComes, level28B, level28C, detailsOf, orderPart, groupPart, detailsStep, detailsClose, withOrder, groupEnded}
-
-pub three-so : (a b c : Bool) → a ≡ true → b ≡ true → c ≡ a && b && c
-three-so a b c e f = rw (e, f)
 
 pub three-first : (a b c : Bool) → a ≡ false → false ≡ a && b && c
 three-first a b c e = rw e

@@ -4,11 +4,10 @@ use mathlib.Core.List.{List}
 use mathlib.Core.Bool.{Bool, true, false, not, _&&_, _||_}
 use lib.Dec.{eqb}
 use Rattle.segments.specs.Classes.{if}
-use Rattle.values.specs.Values.{codeOf}
+use Rattle.values.specs.Values.{codeOf, letters}
 use Rattle.faults.specs.declared.First.{First}
 use Rattle.faults.specs.declared.First.the-variants as first
 use Rattle.faults.specs.Firsts.{lesser, placeUnless}
-use Rattle.message.specs.Text.{letters}
 use Rattle.message.specs.Segs.{Seg, LIN, SEQ, PRC10, PRC16, FTX16, DOC17, is}
 use Rattle.message.specs.Run.{testStep, Level, levelStep, close}
 use Rattle.message.specs.CountLaws.{someStep}

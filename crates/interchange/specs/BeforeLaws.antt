@@ -7,7 +7,7 @@ use mathlib.Core.List.{List, [], _∷_, _++_}
 use mathlib.Core.Bool.{Bool, true, false}
 use lib.ListN.{length, drop}
 use lib.Seq.{drop-append-le}
-use lib.Dec.{T, eqb}
+use lib.Dec.{T}
 use Rattle.service.specs.declared.Service.{Service}
 use Rattle.segments.specs.declared.End.{End}
 use Rattle.segments.specs.declared.End.the-variants.{At, None}
@@ -21,14 +21,14 @@ use Rattle.segments.specs.SegmentList.{Piece, finished, unfinished, segmentsFro
 use Rattle.segments.specs.ListLaws.{list-nothing, list-finished, list-unfinished, segments-after}
 use Rattle.parts.specs.Lex.{lex, valueOf}
 use Rattle.parts.specs.PartLaws.{lex-part}
-use Rattle.values.specs.Values.{codeOf}
-use Rattle.interchange.specs.Messages.{tagAt, UNH, UNT, UNZ, isNone, head, trailer, last, other, Extent, extentBy, extentOf, messagesBy}
+use Rattle.values.specs.Text.{says}
+use Rattle.interchange.specs.Messages.{tagAt, isNone, head, trailer, last, other, Extent, extentBy, extentOf, messagesBy}
 use Rattle.interchange.specs.DamageLaws.{beginning}
 
 -- whether a message stands open after the segments l, where one stood open before them or not
 unfoldable pub stands : Service → List ℕ → Bool → List Piece → Bool
 stands v s r [] = r
-stands v s r (finished a t ∷ l) = stands v s (if (eqb (tagAt v s a) UNH) true (if (eqb (tagAt v s a) UNT) false r)) l
+stands v s r (finished a t ∷ l) = stands v s (if (says (tagAt v s a) "UNH") true (if (says (tagAt v s a) "UNT") false r)) l
 stands v s r (unfinished a e ∷ l) = stands v s r l
 
 -- the tags of two texts at the finished segments of a list agree
@@ -60,7 +60,7 @@ module _ (v : Service) (s s′ : List ℕ) (r r′ : List Piece) where
   extent-ends i nil h = absurd (subst T h tt)
   extent-ends i (fin a t l e w) h =
       rw e
-      (ends-by i a t l (eqb (tagAt v s′ a) UNH) (eqb (tagAt v s′ a) UNT) (eqb (tagAt v s′ a) UNZ) h (extent-ends i w))
+      (ends-by i a t l (says (tagAt v s′ a) "UNH") (says (tagAt v s′ a) "UNT") (says (tagAt v s′ a) "UNZ") h (extent-ends i w))
   extent-ends i (unf a e l w) h = extent-ends i w h
 
   begins-by : (b : Bool) (l : List Piece) (x y z : Bool) (m m′ : Extent) (k k′ : List Extent) → stands v s′ (if x true (if y false b)) l ≡ false → (stands v s′ true l ≡ false → m ≡ m′)
@@ -82,7 +82,7 @@ module _ (v : Service) (s s′ : List ℕ) (r r′ : List Piece) where
   begins-same b nil h = refl
   begins-same b (fin a t l e w) h =
       rw e
-      (begins-by b l (eqb (tagAt v s′ a) UNH) (eqb (tagAt v s′ a) UNT) (eqb (tagAt v s′ a) UNZ) (extentOf v s a (l ++ r)) (extentOf v s′ a (l ++ r′)) (beginning v s l r) (beginning v s′ l r′) h (extent-ends a w) (λ (c : Bool) q. begins-same c w q))
+      (begins-by b l (says (tagAt v s′ a) "UNH") (says (tagAt v s′ a) "UNT") (says (tagAt v s′ a) "UNZ") (extentOf v s a (l ++ r)) (extentOf v s′ a (l ++ r′)) (beginning v s l r) (beginning v s′ l r′) h (extent-ends a w) (λ (c : Bool) q. begins-same c w q))
   begins-same b (unf a e l w) h = begins-same b w h
 
 -- ---- the tags in a text are those of any longer one
@@ -106,8 +106,8 @@ module _ (v : Service) (s b : List ℕ) where
   tag-longer i k c t n e =
       let w = lies v s i k c t n e in
       let h : i ≤ length s = omega arith in
-      ap (λ (l : List ℕ). codeOf (valueOf (lex v false l))) (drop-append-le i s b h)
-      ∙ ap (λ (l : _). codeOf (valueOf l)) (lex-part v false i (drop i s) b t (end-is i k c t n e))
+      ap (λ (l : List ℕ). valueOf (lex v false l)) (drop-append-le i s b h)
+      ∙ ap valueOf (lex-part v false i (drop i s) b t (end-is i k c t n e))
 
   agree-by : (l : List Piece) → ((n : ℕ) (m : List Piece) → segmentsFrom v s n ≡ m → (p : Piece) → l ≡ p ∷ m → Agree v (s ++ b) s m) → (i : ℕ) → segmentsFrom v s i ≡ l → (k : Segment) → k ≡ segmentAt v i s → Agree v (s ++ b) s l
   agree-by l ih i e (segment.Finished t n) c =

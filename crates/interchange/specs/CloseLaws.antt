@@ -5,19 +5,20 @@ use mathlib.Core.Path.{_≡_, refl, sym, _∙_, ap, ap₂}
 use mathlib.Core.List.{List, [], _∷_}
 use mathlib.Core.Bool.{Bool, true, false}
 use lib.ListN.{length, drop}
-use lib.Dec.{eqb}
-use borrow.Author.Tests.{eq-eqb, ne-eqb, eqb-true}
+use borrow.Author.Tests.{eq-eqb, ne-eqb}
 use Rattle.service.specs.declared.Service.{Service}
 use Rattle.segments.specs.Classes.{if}
 use Rattle.segments.specs.SegmentList.{Piece, finished, unfinished, Mode, gap, first as initial, inside, held, after, ends, startIn, emit, left, pieces, segmentsFrom}
 use Rattle.parts.specs.Lex.{lex, valueOf}
 use Rattle.values.specs.Values.{valueFrom, valueIn, sameList, numberOf, isNumber}
+use Rattle.values.specs.Text.{text, says}
+use Rattle.values.specs.TextLaws.{same-eq}
 use Rattle.interchange.specs.declared.Refusal.{Refusal}
 use Rattle.interchange.specs.declared.Opening.{Opening}
 use Rattle.interchange.specs.declared.Opening.the-variants.{Opens, Refused}
 use Rattle.interchange.specs.declared.Survey.{Survey}
 use Rattle.interchange.specs.declared.Closing.{Closing}
-use Rattle.interchange.specs.Messages.{tagAt, UNH, UNT, UNZ, head, trailer, last, other, kindBy, messagesOf, straysOf}
+use Rattle.interchange.specs.Messages.{tagAt, head, trailer, last, other, kindBy, messagesOf, straysOf}
 use Rattle.interchange.specs.Envelope.{isUnz, lastUnz, openingOf, afterFirst, lastStart, closingNumber, bodyOf, messageCount, strayCount, closedBy, closingBy, closingOf}
 use Rattle.interchange.specs.Opened.{opened}
 use Rattle.interchange.specs.SurveyLaws.{stopBy, stopOf, farther, Surveyed}
@@ -44,8 +45,9 @@ tidy-pieces v m st i [] = tidy-left m st i
 tidy-pieces v m st i (b ∷ l) = tidy-emit (ends v m b) _ _ _ (tidy-pieces v (after v m b) (startIn m st i) (suc i) l)
 
 -- ---- the count stops at the end UNZ, where there is one
-unz-last : (g : ℕ) → eqb g UNZ ≡ true → kindBy g true ≡ last
-unz-last g e = let z : g ≡ UNZ = eqb-true g UNZ e in rw z refl
+unz-last : (g : List ℕ) → says g "UNZ" ≡ true → kindBy g true ≡ last
+unfolding text sameList
+unz-last g e = let z : g ≡ text "UNZ" = same-eq g (text "UNZ") e in rw z refl
 
 go-on : (t u w : Bool) (i on : ℕ) → stopBy (if t head (if u trailer (if w other other))) i on ≡ on
 go-on true u w i on = refl
@@ -59,7 +61,7 @@ stop-is v s b nil e = refl
 stop-is v s b (one a u) e = absurd (let z : _≡_ {A = ℕ} 0 1 = cc in omega arith)
 stop-is v s b (more a t [] w) e = rw (unz-last (tagAt v s a) e) refl
 stop-is v s b (more a t (p ∷ l) w) e =
-    go-on (eqb (tagAt v s a) UNH) (eqb (tagAt v s a) UNT) (eqb (tagAt v s a) UNZ) a (stopOf v s (length s) (p ∷ l))
+    go-on (says (tagAt v s a) "UNH") (says (tagAt v s a) "UNT") (says (tagAt v s a) "UNZ") a (stopOf v s (length s) (p ∷ l))
     ∙ stop-is v s (isUnz v s (finished a t)) w e
 
 stop-body : (v : Service) (s : List ℕ) {l : List Piece} → Tidy l → lastUnz v s false l ≡ true → stopOf v s (length s) (afterFirst l) ≡ lastStart (length s) (afterFirst l)

@@ -10,7 +10,6 @@ use Rattle.service.specs.declared.Service.{Service}
 use Rattle.segments.specs.SegmentList.{Piece, finished, unfinished}
 use Rattle.segments.specs.Sync.{shift}
 use Rattle.parts.specs.Lex.{lex, valueOf}
-use Rattle.values.specs.Values.{codeOf}
 use Rattle.interchange.specs.Messages.{tagAt, startOf, isNone, Kind, head, trailer, last, other, cut, kindBy, kindOf, Extent, closed, unclosed, pastOf, extentBy, extentOf, messagesBy, messagesOf}
 
 -- the same message, k bytes further on
@@ -42,7 +41,7 @@ messages-append v s (p ∷ l) r =
 module _ (v : Service) (x r : List ℕ) where
   pub tag-moved : (i : ℕ) → tagAt v (x ++ r) (length x + i) ≡ tagAt v r i
   unfolding tagAt
-  tag-moved i = ap (λ (l : List ℕ). codeOf (valueOf (lex v false l))) (drop-append-add x r i)
+  tag-moved i = ap (λ (l : List ℕ). valueOf (lex v false l)) (drop-append-add x r i)
 
   none-moved : (l : List Piece) → isNone (map (shift (length x)) l) ≡ isNone l
   none-moved [] = refl

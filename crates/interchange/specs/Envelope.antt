@@ -11,20 +11,21 @@ use Rattle.service.specs.Service.{charactersOf}
 use Rattle.segments.specs.Classes.{if}
 use Rattle.segments.specs.Bytes.{pastBreaks}
 use Rattle.segments.specs.SegmentList.{Piece, finished, unfinished, segmentsFrom}
-use Rattle.values.specs.Values.{valueIn, codeOf, sameList, numberOf, isNumber}
+use Rattle.values.specs.Text.{sameList, says}
+use Rattle.values.specs.Values.{valueIn, numberOf, isNumber}
 use Rattle.interchange.specs.declared.Refusal.{Refusal}
 use Rattle.interchange.specs.declared.Opening.{Opening}
 use Rattle.interchange.specs.declared.Opening.the-variants.{Opens, Refused}
 use Rattle.interchange.specs.declared.Closing.{Closing}
-use Rattle.interchange.specs.Messages.{tagAt, UNB, UNZ, startOf, messagesOf, straysOf}
+use Rattle.interchange.specs.Messages.{tagAt, startOf, messagesOf, straysOf}
 
 -- a reference has 1 to 14 bytes
 unfoldable pub isReference : ℕ → Bool
 isReference n = leb 1 n && leb n 14
 
--- "UNB: syntax version (second component of the first element) 3, control reference (fifth element) 1 to 14 bytes": 307 is the code of "3" (byte 51)
+-- "UNB: syntax version (second component of the first element) 3, control reference (fifth element) 1 to 14 bytes"
 unfoldable pub isHeader : Service → List ℕ → ℕ → Bool
-isHeader v s i = eqb (tagAt v s i) UNB && (eqb (codeOf (valueIn v i s 1 1)) 307 && isReference (length (valueIn v i s 5 0)))
+isHeader v s i = says (tagAt v s i) "UNB" && (says (valueIn v i s 1 1) "3" && isReference (length (valueIn v i s 5 0)))
 
 -- 3: "first segment, finished or not, is no such UNB (an empty buffer too)"
 abbrev pub headed : Service → List ℕ → List Piece → Bool
@@ -32,7 +33,7 @@ headed v s [] = false
 headed v s (p ∷ l) = isHeader v s (startOf p)
 
 abbrev pub isUnz : Service → List ℕ → Piece → Bool
-isUnz v s (finished a t) = eqb (tagAt v s a) UNZ
+isUnz v s (finished a t) = says (tagAt v s a) "UNZ"
 isUnz v s (unfinished a e) = false
 
 -- whether the last segment is a finished UNZ, or, of none, what is given

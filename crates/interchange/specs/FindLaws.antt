@@ -19,7 +19,9 @@ use Rattle.segments.specs.SegmentList.{Piece, finished, unfinished, Mode, gap, 
 use Rattle.segments.specs.ListLaws.{list-nothing, list-finished, list-unfinished, segments-after}
 use Rattle.interchange.specs.declared.Found.{Found}
 use Rattle.interchange.specs.declared.Found.the-variants as found
-use Rattle.interchange.specs.Messages.{tagAt, UNH, UNT, UNZ, isNone, Kind, head, trailer, last, other, cut, kindBy, kindOf, Extent, closed, unclosed, startsAt, endsAt, extentBy, extentOf, messagesBy, messagesOf, cutBefore, cutAny, foundOne, foundBy, foundIn, foundFrom}
+use Rattle.values.specs.Values.{codeOf}
+use Rattle.interchange.specs.Messages.{tagAt, isNone, Kind, head, trailer, last, other, cut, kindOf, Extent, closed, unclosed, startsAt, endsAt, extentBy, extentOf, messagesBy, messagesOf, cutBefore, cutAny, foundOne, foundBy, foundIn, foundFrom}
+use Rattle.interchange.specs.TagLaws.{UNH, UNT, UNZ, kindCode}
 use Rattle.interchange.specs.KindLaws.{none-list, isEnd, kind-head, kind-trailer, kind-last, kind-other, kind-at}
 
 -- ---- an unfinished segment begins no earlier than the bytes that are read
@@ -91,8 +93,8 @@ module _ (x : Found) (v : Service) (s : List ℕ) (a i : ℕ) (inv : x ≡ endFo
   unfolding endFound extentOf cutBefore
   end-cut e = let h = unfinished-within v s i k c e in sym (inv ∙ rw (list-unfinished v s i k c e) (simp (lt-ltb i (length s) h)))
 
-  module _ (t n : ℕ) (e : k ≡ segment.Finished t n) (g : ℕ) (q : g ≡ tagAt v s i) where
-    by-kind : (j : Kind) → kindBy g (leb (length s) n) ≡ j → x ≡ foundOne (extentBy j (finished i t) a (extentOf v s a (segmentsFrom v s n))) (segmentsFrom v s n)
+  module _ (t n : ℕ) (e : k ≡ segment.Finished t n) (g : ℕ) (q : g ≡ codeOf (tagAt v s i)) where
+    by-kind : (j : Kind) → kindCode g (leb (length s) n) ≡ j → x ≡ foundOne (extentBy j (finished i t) a (extentOf v s a (segmentsFrom v s n))) (segmentsFrom v s n)
     unfolding endFound extentOf cutBefore
     by-kind j w = inv ∙ rw (list-finished v s i k c t n e, kind-at v s i t n g q, w)
 
@@ -139,7 +141,7 @@ head-by g e h false q w = rest (eqb g UNT) (eqb g UNZ) e w
     rest false true false w = let z : _≡_ {A = ℕ} 0 1 = cc in omega arith
     rest false false e w = let z : _≡_ {A = ℕ} 0 1 = cc in omega arith
 
-pub not-head : (g : ℕ) (e : Bool) → (g ≡ UNH → ⊥) → kindBy g e ≡ head → ⊥
+pub not-head : (g : ℕ) (e : Bool) → (g ≡ UNH → ⊥) → kindCode g e ≡ head → ⊥
 not-head g e h w = head-by g e h (eqb g UNH) refl w
 
 pub found-start : (v : Service) (s : List ℕ) (at p : ℕ) → p ≡ pastBreaks at (drop at s) → foundFrom v s at ≡ foundIn v s (segmentsFrom v s p)
@@ -159,14 +161,14 @@ module _ (x : Found) (v : Service) (s : List ℕ) (i : ℕ) (inv : x ≡ foundIn
   unfolding foundIn messagesOf cutAny
   find-cut e = sym (inv ∙ rw (list-unfinished v s i k c e))
 
-  module _ (t n : ℕ) (e : k ≡ segment.Finished t n) (g : ℕ) (q : g ≡ tagAt v s i) where
+  module _ (t n : ℕ) (e : k ≡ segment.Finished t n) (g : ℕ) (q : g ≡ codeOf (tagAt v s i)) where
     pub find-head : g ≡ UNH → (y : Found) → y ≡ endFound v s i (segmentsFrom v s n) → y ≡ x
     unfolding foundIn messagesOf endFound cutBefore
     find-head w y d = d ∙ sym (inv ∙ rw (list-finished v s i k c t n e, kind-at v s i t n g q, kind-head g (leb (length s) n) w))
 
     skip : (g ≡ UNH → ⊥) → messagesOf v s (finished i t ∷ segmentsFrom v s n) ≡ messagesOf v s (segmentsFrom v s n)
     unfolding messagesOf
-    skip w = rw (kind-at v s i t n g q) (none-by (kindBy g (leb (length s) n)) (extentOf v s i (segmentsFrom v s n)) (messagesOf v s (segmentsFrom v s n)) (not-head g (leb (length s) n) w))
+    skip w = rw (kind-at v s i t n g q) (none-by (kindCode g (leb (length s) n)) (extentOf v s i (segmentsFrom v s n)) (messagesOf v s (segmentsFrom v s n)) (not-head g (leb (length s) n) w))
 
     pub find-on : (g ≡ UNH → ⊥) → x ≡ foundIn v s (segmentsFrom v s n)
     unfolding foundIn

@@ -16,40 +16,39 @@ use Rattle.segments.specs.Bytes.{pastBreaks}
 use Rattle.segments.specs.FitLaws.{fits-sound}
 use Rattle.segments.specs.ListLaws.{segments-after}
 use Rattle.parts.specs.Lex.{lex, valueOf}
-use Rattle.values.specs.Numbers.{Bytes}
+use Rattle.values.specs.Text.{text}
 use Rattle.interchange.specs.declared.Opening.the-variants.{Opens}
-use Rattle.interchange.specs.Messages.{tagAt, UNB, messagesOf}
+use Rattle.interchange.specs.Messages.{tagAt, messagesOf}
 use Rattle.interchange.specs.Envelope.{firstAt, openingOf, bodyOf}
 use Rattle.interchange.specs.Opened.{opened}
-use Rattle.interchange.specs.TagLaws.{tag-unb}
 use Rattle.interchange.specs.Walk.{Walks}
 use Rattle.interchange.specs.WalkLaws.{settled}
 use Rattle.interchange.specs.WalkTheorems.{header, walks-from}
 
 -- no value that begins with a break is UNB
-break-tag : (v : Service) (b : ℕ) (s : List ℕ) → classOf v b ≡ Plain → b ≤ 13 → Bytes (b ∷ s) → tagAt v (b ∷ s) 0 ≡ UNB → ⊥
-unfolding lex valueOf
-break-tag v b s k g w e =
-    let d : b ∷ valueOf (lex v false s) ≡ 85 ∷ 78 ∷ 66 ∷ [] = rw k at (tag-unb v (b ∷ s) 0 w .0 e) in
+break-tag : (v : Service) (b : ℕ) (s : List ℕ) → classOf v b ≡ Plain → b ≤ 13 → tagAt v (b ∷ s) 0 ≡ text "UNB" → ⊥
+unfolding tagAt lex valueOf text
+break-tag v b s k g e =
+    let d : b ∷ valueOf (lex v false s) ≡ 85 ∷ 78 ∷ 66 ∷ [] = rw k at e in
     let x : b ≡ 85 = cc in omega arith
 
-at-zero-by : (v : Service) (b : ℕ) (s : List ℕ) → classOf v 13 ≡ Plain → classOf v 10 ≡ Plain → Bytes (b ∷ s) → tagAt v (b ∷ s) 0 ≡ UNB → (t u : Bool) → eqb b 13 ≡ t → eqb b 10 ≡ u → if t (pastBreaks 1 s) (if u (pastBreaks 1 s) 0) ≡ 0
-at-zero-by v b s cr lf w e true u p q =
+at-zero-by : (v : Service) (b : ℕ) (s : List ℕ) → classOf v 13 ≡ Plain → classOf v 10 ≡ Plain → tagAt v (b ∷ s) 0 ≡ text "UNB" → (t u : Bool) → eqb b 13 ≡ t → eqb b 10 ≡ u → if t (pastBreaks 1 s) (if u (pastBreaks 1 s) 0) ≡ 0
+at-zero-by v b s cr lf e true u p q =
     let x : b ≡ 13 = eqb-true b 13 p in
     let g : b ≤ 13 = omega arith in
-    absurd (break-tag v b s (ap (classOf v) x ∙ cr) g w e)
-at-zero-by v b s cr lf w e false true p q =
+    absurd (break-tag v b s (ap (classOf v) x ∙ cr) g e)
+at-zero-by v b s cr lf e false true p q =
     let x : b ≡ 10 = eqb-true b 10 q in
     let g : b ≤ 13 = omega arith in
-    absurd (break-tag v b s (ap (classOf v) x ∙ lf) g w e)
-at-zero-by v b s cr lf w e false false p q = refl
+    absurd (break-tag v b s (ap (classOf v) x ∙ lf) g e)
+at-zero-by v b s cr lf e false false p q = refl
 
-pub at-zero : (v : Service) (s : List ℕ) → classOf v 13 ≡ Plain → classOf v 10 ≡ Plain → Bytes s → tagAt v s 0 ≡ UNB → pastBreaks 0 s ≡ 0
+pub at-zero : (v : Service) (s : List ℕ) → classOf v 13 ≡ Plain → classOf v 10 ≡ Plain → tagAt v s 0 ≡ text "UNB" → pastBreaks 0 s ≡ 0
 unfolding pastBreaks
-at-zero v [] cr lf w e = refl
-at-zero v (b ∷ s) cr lf w e = at-zero-by v b s cr lf w e (eqb b 13) (eqb b 10) refl refl
+at-zero v [] cr lf e = refl
+at-zero v (b ∷ s) cr lf e = at-zero-by v b s cr lf e (eqb b 13) (eqb b 10) refl refl
 
-module _ (s : List ℕ) (w : Bytes s) (v : Service) (first : ℕ) (o : openingOf s ≡ Opens v first) where
+module _ (s : List ℕ) (v : Service) (first : ℕ) (o : openingOf s ≡ Opens v first) where
   pub first-settled : pastBreaks first (drop first s) ≡ first
   unfolding firstAt
   first-settled =
@@ -59,7 +58,7 @@ module _ (s : List ℕ) (w : Bytes s) (v : Service) (first : ℕ) (o : openingOf
       (λ (e : f .una ≡ 0).
       let z : 0 ≡ first = ap (firstAt s) (sym e) ∙ f .begins in
       let k = fits-sound v (c .0) in
-      subst (λ (i : ℕ). pastBreaks i (drop i s) ≡ i) z (at-zero v s (k .cr) (k .lf) w (ap (tagAt v s) z ∙ header s v first o .tag)))
+      subst (λ (i : ℕ). pastBreaks i (drop i s) ≡ i) z (at-zero v s (k .cr) (k .lf) (ap (tagAt v s) z ∙ header s v first o .tag)))
       (λ (e : f .una ≡ 9). settled v s 9 first (sym (ap (firstAt s) (sym e) ∙ f .begins)))
       (c .1)
 

@@ -20,7 +20,9 @@ use Rattle.segments.specs.SegmentsLaws.{segment-by}
 use Rattle.segments.specs.SegmentList.{Piece, finished, unfinished, segmentsFrom}
 use Rattle.segments.specs.SyncLaws.{rest-nothing}
 use Rattle.segments.specs.ListLaws.{listBy, segments-at}
-use Rattle.interchange.specs.Messages.{tagAt, UNH, UNT, UNZ, isNone, Kind, head, trailer, last, other, cut, kindBy, kindOf}
+use Rattle.values.specs.Values.{codeOf}
+use Rattle.interchange.specs.Messages.{tagAt, isNone, Kind, head, trailer, last, other, cut, kindOf}
+use Rattle.interchange.specs.TagLaws.{UNH, UNT, UNZ, kindCode, kind-code}
 
 -- no segment is left exactly if no byte is
 some-by : (v : Service) (s : List ℕ) (n : ℕ) (k : End) → isNone (listBy (segmentBy s k) n (length s) (segmentsFrom v s)) ≡ false
@@ -50,17 +52,17 @@ unfolding isEnd
 end-other s g n e = simp (ne-eqb g UNZ e)
 
 -- ---- kinds by the tests
-pub kind-head : (g : ℕ) (e : Bool) → g ≡ UNH → kindBy g e ≡ head
+pub kind-head : (g : ℕ) (e : Bool) → g ≡ UNH → kindCode g e ≡ head
 kind-head g e h = simp (eq-eqb g UNH h)
 
-pub kind-trailer : (g : ℕ) (e : Bool) → g ≡ UNT → kindBy g e ≡ trailer
+pub kind-trailer : (g : ℕ) (e : Bool) → g ≡ UNT → kindCode g e ≡ trailer
 kind-trailer g e h = rw h refl
 
-end-is : (s : List ℕ) (g n : ℕ) (t : Bool) → eqb g UNZ ≡ t → if t (leb (length s) n) false ≡ true → kindBy g (leb (length s) n) ≡ last
+end-is : (s : List ℕ) (g n : ℕ) (t : Bool) → eqb g UNZ ≡ t → if t (leb (length s) n) false ≡ true → kindCode g (leb (length s) n) ≡ last
 end-is s g n true q h = let z : g ≡ UNZ = eqb-true g UNZ q in rw (h, z) refl
 end-is s g n false q h = absurd (let z : _≡_ {A = ℕ} 0 1 = cc in omega arith)
 
-pub kind-last : (s : List ℕ) (g n : ℕ) (b : Bool) → b ≡ isEnd s g n → b ≡ true → kindBy g (leb (length s) n) ≡ last
+pub kind-last : (s : List ℕ) (g n : ℕ) (b : Bool) → b ≡ isEnd s g n → b ≡ true → kindCode g (leb (length s) n) ≡ last
 unfolding isEnd
 kind-last s g n b c e = end-is s g n (eqb g UNZ) refl (sym c ∙ e)
 
@@ -68,13 +70,13 @@ not-end : (s : List ℕ) (n : ℕ) (t : Bool) → if t (leb (length s) n) false 
 not-end s n true h = rw h refl
 not-end s n false h = refl
 
-pub kind-other : (s : List ℕ) (g n : ℕ) → (g ≡ UNH → ⊥) → (g ≡ UNT → ⊥) → (b : Bool) → b ≡ isEnd s g n → b ≡ false → kindBy g (leb (length s) n) ≡ other
+pub kind-other : (s : List ℕ) (g n : ℕ) → (g ≡ UNH → ⊥) → (g ≡ UNT → ⊥) → (b : Bool) → b ≡ isEnd s g n → b ≡ false → kindCode g (leb (length s) n) ≡ other
 unfolding isEnd
 kind-other s g n p q b c e = simp (ne-eqb g UNH p, ne-eqb g UNT q) (not-end s n (eqb g UNZ) (sym c ∙ e))
 
 -- the kind of the segment at i
-pub kind-at : (v : Service) (s : List ℕ) (i t n g : ℕ) → g ≡ tagAt v s i → kindOf v s (finished i t) (segmentsFrom v s n) ≡ kindBy g (leb (length s) n)
-kind-at v s i t n g q = rw (none-list v s n, ← q) refl
+pub kind-at : (v : Service) (s : List ℕ) (i t n g : ℕ) → g ≡ codeOf (tagAt v s i) → kindOf v s (finished i t) (segmentsFrom v s n) ≡ kindCode g (leb (length s) n)
+kind-at v s i t n g q = kind-code (tagAt v s i) (isNone (segmentsFrom v s n)) ∙ rw (none-list v s n, ← q) refl
 
 -- no segment follows the end UNZ
 list-end : (v : Service) (s : List ℕ) (n : ℕ) (t : Bool) → if t (leb (length s) n) false ≡ true → segmentsFrom v s n ≡ []

@@ -21,5 +21,8 @@ pub mod KeptTheorem
 pub mod ReopenTheorem
 pub mod DamageTheorem
 pub mod ZeroTheorems
-pub mod Extent
-pub mod ExtentLaws
+pub mod OwnLaws
+pub mod WithinLaws
+pub mod Alike
+pub mod AlikeLaws
+pub mod MessageLaws

@@ -6,28 +6,16 @@ use lib.ListN.{length}
 use lib.Dec.{eqb, ltb}
 use Rattle.service.specs.declared.Service.{Service}
 use Rattle.segments.specs.Classes.{if}
-use Rattle.segments.specs.SegmentList.{Piece, finished, unfinished, segmentsAfter}
+use Rattle.segments.specs.SegmentList.{Piece, finished, unfinished, segmentsFrom, segmentsAfter}
 pub use Rattle.segments.specs.SegmentList.{startOf}
-use Rattle.values.specs.Values.{valueFrom, codeOf}
+use Rattle.values.specs.Numbers.{valueFrom}
+use Rattle.values.specs.Text.{says}
 use Rattle.interchange.specs.declared.Found.{Found}
 use Rattle.interchange.specs.declared.Found.the-variants as found
 
--- "its tag is the first component's value": the tag, as a code, of the segment that begins at i
-unfoldable pub tagAt : Service → List ℕ → ℕ → ℕ
-tagAt v s i = codeOf (valueFrom v i s)
-
--- the codes of the tags U N B (bytes 85 78 66), U N H (85 78 72), U N T (85 78 84) and U N Z (85 78 90); `TagLaws` has that they are these
-abbrev pub UNB : ℕ
-UNB = 22367810
-
-abbrev pub UNH : ℕ
-UNH = 22367816
-
-abbrev pub UNT : ℕ
-UNT = 22367828
-
-abbrev pub UNZ : ℕ
-UNZ = 22367834
+-- "its tag is the first component's value": the tag of the segment that begins at i
+unfoldable pub tagAt : Service → List ℕ → ℕ → List ℕ
+tagAt v s i = valueFrom v i s
 
 -- whether no segment is left
 abbrev pub isNone : List Piece → Bool
@@ -39,8 +27,8 @@ pub data Kind : Type 0 where
   head trailer last other cut : Kind
 
 -- "UNZ counts as the end only if nothing but CR and LF follows it. A UNZ elsewhere is an ordinary segment."
-abbrev pub kindBy : ℕ → Bool → Kind
-kindBy g e = if (eqb g UNH) head (if (eqb g UNT) trailer (if (eqb g UNZ) (if e last other) other))
+abbrev pub kindBy : List ℕ → Bool → Kind
+kindBy g e = if (says g "UNH") head (if (says g "UNT") trailer (if (says g "UNZ") (if e last other) other))
 
 -- a segment and those that follow it: "An unfinished segment counts as no UNH, no UNT and no end UNZ."
 abbrev pub kindOf : Service → List ℕ → Piece → List Piece → Kind
@@ -58,6 +46,10 @@ startsAt (unclosed a e) = a
 abbrev pub endsAt : Extent → ℕ
 endsAt (closed a e) = e
 endsAt (unclosed a e) = e
+
+abbrev pub isClosed : Extent → Bool
+isClosed (closed a e) = true
+isClosed (unclosed a e) = false
 
 -- where a finished segment ends, "terminator included"
 abbrev pub pastOf : Piece → ℕ
@@ -77,6 +69,15 @@ extentBy cut p a on = on
 unfoldable pub extentOf : Service → List ℕ → ℕ → List Piece → Extent
 extentOf v s a [] = unclosed a (length s)
 extentOf v s a (p ∷ l) = extentBy (kindOf v s p l) p a (extentOf v s a l)
+
+-- the same said of a message's own bytes, for number 11: closed is a message whose first UNT is finished and ends the bytes
+unfoldable pub closedAt : Service → List ℕ → ℕ → List Piece → Bool
+closedAt v m e [] = false
+closedAt v m e (finished a t ∷ l) = if (says (tagAt v m a) "UNT") (eqb (t + 1) e) (closedAt v m e l)
+closedAt v m e (unfinished a u ∷ l) = false
+
+abbrev pub endsClosed : Service → List ℕ → Bool
+endsClosed v m = closedAt v m (length m) (segmentsFrom v m 0)
 
 abbrev pub messagesBy : Kind → Extent → List Extent → List Extent
 messagesBy head m on = m ∷ on

@@ -24,11 +24,13 @@ use Rattle.segments.specs.SegmentList.{Piece, finished, unfinished, segmentsFro
 use Rattle.segments.specs.SyncLaws.{rest-nothing}
 use Rattle.segments.specs.ListLaws.{listBy, segments-at, list-nothing, list-finished, list-unfinished}
 use Rattle.parts.specs.Lex.{lex, valueOf}
-use Rattle.values.specs.Values.{valueFrom, valueIn, codeFrom, codeOf}
+use Rattle.values.specs.Text.{text, sameList}
+use Rattle.values.specs.Values.{valueFrom, valueIn, codeOf}
 use Rattle.interchange.specs.declared.Refusal.{Refusal}
 use Rattle.interchange.specs.declared.Opening.{Opening}
 use Rattle.interchange.specs.declared.Opening.the-variants.{Opens, Refused}
-use Rattle.interchange.specs.Messages.{tagAt, UNB, UNZ, startOf}
+use Rattle.interchange.specs.Messages.{tagAt, startOf}
+use Rattle.interchange.specs.TagLaws.{UNB, UNZ, unb-code, unz-code, three-code}
 use Rattle.interchange.specs.Envelope.{isReference, isHeader, headed, isUnz, lastUnz, ended, firstAt, refusal, openedBy, openingBy, openingOf}
 
 pub reference-none : (n : ℕ) → n < 1 → false ≡ isReference n
@@ -40,26 +42,26 @@ unfolding isReference
 reference-some n h = simp (le-leb 1 n h)
 
 -- ---- the header
-module _ (v : Service) (s : List ℕ) (i g : ℕ) (q : g ≡ tagAt v s i) where
+module _ (v : Service) (s : List ℕ) (i g : ℕ) (q : g ≡ codeOf (tagAt v s i)) where
   pub header-tag : (g ≡ UNB → ⊥) → false ≡ isHeader v s i
   unfolding isHeader
-  header-tag h = rw (← q) (simp (ne-eqb g UNB h))
+  header-tag h = rw (unb-code (tagAt v s i), ← q) (simp (ne-eqb g UNB h))
 
   module _ (e : g ≡ UNB) (x : ℕ) (c : x ≡ codeOf (valueIn v i s 1 1)) where
     pub header-version : (x ≡ 307 → ⊥) → false ≡ isHeader v s i
     unfolding isHeader
-    header-version h = rw (← q, ← c) (simp (eq-eqb g UNB e, ne-eqb x 307 h))
+    header-version h = rw (unb-code (tagAt v s i), three-code (valueIn v i s 1 1), ← q, ← c) (simp (eq-eqb g UNB e, ne-eqb x 307 h))
 
     pub header-reference : x ≡ 307 → (p n : ℕ) → valueOf (lex v false (drop p s)) ≡ valueIn v i s 5 0 → n ≡ length (valueFrom v p s) → (b : Bool) → b ≡ isReference n → b ≡ isHeader v s i
     unfolding isHeader
-    header-reference h p n d m b r = r ∙ ap isReference (m ∙ ap length d) ∙ rw (← q, ← c) (simp (eq-eqb g UNB e, eq-eqb x 307 h))
+    header-reference h p n d m b r = r ∙ ap isReference (m ∙ ap length d) ∙ rw (unb-code (tagAt v s i), three-code (valueIn v i s 1 1), ← q, ← c) (simp (eq-eqb g UNB e, eq-eqb x 307 h))
 
 headed-by : (v : Service) (s : List ℕ) (i : ℕ) (k : End) → headed v s (listBy (segmentBy s k) i (length s) (segmentsFrom v s)) ≡ isHeader v s i
 headed-by v s i (At t) = refl
 headed-by v s i None = refl
 
 empty-header : (v : Service) (s : List ℕ) (i : ℕ) → length s ≤ i → false ≡ isHeader v s i
-unfolding tagAt lex valueOf codeFrom isHeader
+unfolding tagAt lex valueOf text sameList isHeader
 empty-header v s i h = rw (drop-of-length-le s) refl
 
 -- "first segment, finished or not": the one that begins there
@@ -82,9 +84,9 @@ module _ (x : Bool) (v : Service) (s : List ℕ) (i : ℕ) (b : Bool) (inv : x �
   unfolding lastUnz
   unz-cut e = sym (inv ∙ rw (list-unfinished v s i k c e))
 
-  pub unz-on : (t n : ℕ) → k ≡ segment.Finished t n → (g : ℕ) → g ≡ tagAt v s i → x ≡ lastUnz v s (eqb g UNZ) (segmentsFrom v s n)
+  pub unz-on : (t n : ℕ) → k ≡ segment.Finished t n → (g : ℕ) → g ≡ codeOf (tagAt v s i) → x ≡ lastUnz v s (eqb g UNZ) (segmentsFrom v s n)
   unfolding lastUnz
-  unz-on t n e g q = inv ∙ rw (list-finished v s i k c t n e, q)
+  unz-on t n e g q = inv ∙ rw (list-finished v s i k c t n e) (ap (λ (y : Bool). lastUnz v s y (segmentsFrom v s n)) (unz-code (tagAt v s i) ∙ ap (λ (y : ℕ). eqb y UNZ) (sym q)))
 
 -- ---- the first segment
 pub first-zero : (s : List ℕ) (una : ℕ) → una ≡ 0 → 0 ≡ firstAt s una

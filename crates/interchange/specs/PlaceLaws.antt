@@ -7,7 +7,8 @@ use lib.ListN.{length, getD, drop}
 use Rattle.service.specs.declared.Service.{Service}
 use Rattle.segments.specs.SegmentList.{Piece, finished, gap, segmentsAfter}
 use Rattle.segments.specs.ClearLaws.{Clear, clear-on, passed, upto-start, from-start, pastAll, PassedAll, passed-all, past-last, past-append}
-use Rattle.interchange.specs.Messages.{tagAt, UNH, UNT, Extent, messagesOf}
+use Rattle.values.specs.Text.{text}
+use Rattle.interchange.specs.Messages.{tagAt, Extent, messagesOf}
 use Rattle.interchange.specs.CloseLaws.{Tidy, tidy-pieces}
 use Rattle.interchange.specs.Damage.{Target}
 use Rattle.interchange.specs.DamageLaws.{beginning}
@@ -20,7 +21,7 @@ pub record Place (v : Service) (s : List ℕ) (q : ℕ) (before : List Extent) (
   pub back : List Piece
   pub is : segmentsAfter v s q ≡ front ++ (finished a head ∷ back)
   pub here : segmentsAfter v s a ≡ finished a head ∷ back
-  pub tag : tagAt v s a ≡ UNH
+  pub tag : tagAt v s a ≡ text "UNH"
   pub begins : beginning v s front (finished a head ∷ back) ≡ before
   pub clear : Clear v s q a
   -- the terminator before the UNT, and the UNT's own
@@ -36,7 +37,7 @@ pub record Place (v : Service) (s : List ℕ) (q : ℕ) (before : List Extent) (
   pub most : List Piece
   pub unt : ℕ
   pub whole : segmentsAfter v s q ≡ most ++ (finished unt last ∷ segmentsAfter v s e)
-  pub tag-unt : tagAt v s unt ≡ UNT
+  pub tag-unt : tagAt v s unt ≡ text "UNT"
   pub rest : messagesOf v s (segmentsAfter v s e) ≡ after
 
 -- the second of two neighbours is followed by the same segments in both, so that the first is the same

@@ -7,7 +7,7 @@ use mathlib.Core.List.{List, [], _∷_, _++_, map, append-assoc}
 use mathlib.Core.Bool.{Bool, true, false, _&&_}
 use lib.ListN.{length, take, drop, length-drop, take-append-drop}
 use lib.Seq.{length-take-le, drop-append-le}
-use lib.Dec.{T, eqb}
+use lib.Dec.{T}
 use Rattle.service.specs.declared.Service.{Service}
 use Rattle.service.specs.declared.Characters.the-variants.{Fit}
 use Rattle.service.specs.Service.{Fits, charactersOf}
@@ -25,14 +25,13 @@ use Rattle.segments.specs.ResyncLaws.{gap-start}
 use Rattle.segments.specs.ClosedLaws.{segments-moved}
 use Rattle.parts.specs.Lex.{Tok, lex, valueOf, elements, valueAt}
 use Rattle.parts.specs.PartLaws.{lex-part, value-short}
-use Rattle.values.specs.Numbers.{Bytes}
-use Rattle.values.specs.Values.{valueFrom, codeOf}
+use Rattle.values.specs.Numbers.{valueFrom}
+use Rattle.values.specs.Text.{text, sameList, says}
 use Rattle.interchange.specs.declared.Opening.the-variants.{Opens}
-use Rattle.interchange.specs.Messages.{tagAt, UNB, UNT, UNZ, Extent}
+use Rattle.interchange.specs.Messages.{tagAt, Extent}
 use Rattle.interchange.specs.Envelope.{isReference, isHeader, headed, isUnz, lastUnz, ended, firstAt, openingOf, afterFirst, bodyOf}
 use Rattle.interchange.specs.Opened.{opened, opens}
 use Rattle.interchange.specs.OpenLaws.{headed-at}
-use Rattle.interchange.specs.TagLaws.{tag-unb}
 use Rattle.interchange.specs.WalkTheorems.{header}
 use Rattle.interchange.specs.Damage.{replaced}
 use Rattle.interchange.specs.DamageLaws.{tag-moved}
@@ -47,7 +46,7 @@ last-append v s b [] p r = refl
 last-append v s b (q ∷ l) p r = last-append v s (isUnz v s q) l p r
 
 unz-moved : (v : Service) (x r : List ℕ) (p : Piece) → isUnz v (x ++ r) (shift (length x) p) ≡ isUnz v r p
-unz-moved v x r (finished a t) = ap (λ (g : ℕ). eqb g UNZ) (tag-moved v x r a)
+unz-moved v x r (finished a t) = ap (λ (g : List ℕ). says g "UNZ") (tag-moved v x r a)
 unz-moved v x r (unfinished a e) = refl
 
 last-moved : (v : Service) (x r : List ℕ) (b : Bool) (l : List Piece) → lastUnz v (x ++ r) b (map (shift (length x)) l) ≡ lastUnz v r b l
@@ -56,15 +55,15 @@ last-moved v x r b [] = refl
 last-moved v x r b (p ∷ l) = ap (λ (c : Bool). lastUnz v (x ++ r) c (map (shift (length x)) l)) (unz-moved v x r p) ∙ last-moved v x r (isUnz v r p) l
 
 -- behind a UNT stands the UNZ that ends the interchange
-unt-not-last : (v : Service) (s : List ℕ) (b : Bool) (l : List Piece) (u z : ℕ) → tagAt v s u ≡ UNT → lastUnz v s b (l ++ (finished u z ∷ [])) ≡ true → ⊥
-unfolding lastUnz
+unt-not-last : (v : Service) (s : List ℕ) (b : Bool) (l : List Piece) (u z : ℕ) → tagAt v s u ≡ text "UNT" → lastUnz v s b (l ++ (finished u z ∷ [])) ≡ true → ⊥
+unfolding lastUnz text sameList
 unt-not-last v s b l u z e q =
-    let x : eqb (tagAt v s u) UNZ ≡ true = sym (last-append v s b l (finished u z) []) ∙ q in
-    let y : false ≡ true = ap (λ (g : ℕ). eqb g UNZ) (sym e) ∙ x in
+    let x : says (tagAt v s u) "UNZ" ≡ true = sym (last-append v s b l (finished u z) []) ∙ q in
+    let y : false ≡ true = ap (λ (g : List ℕ). says g "UNZ") (sym e) ∙ x in
     subst T (sym y) tt
 
 -- so the segments r by themselves, where they stand in two texts, end in the same way
-pub same-last : (v : Service) (x x′ r : List ℕ) (b b′ : Bool) (l l′ : List Piece) (u z : ℕ) → tagAt v (x ++ r) u ≡ UNT → (m : List Piece)
+pub same-last : (v : Service) (x x′ r : List ℕ) (b b′ : Bool) (l l′ : List Piece) (u z : ℕ) → tagAt v (x ++ r) u ≡ text "UNT" → (m : List Piece)
     → lastUnz v (x ++ r) b (l ++ (finished u z ∷ map (shift (length x)) m)) ≡ true → lastUnz v (x′ ++ r) b′ (l′ ++ map (shift (length x′)) m) ≡ true
 unfolding lastUnz
 same-last v x x′ r b b′ l l′ u z e [] q = absurd (unt-not-last v (x ++ r) b l u z e q)
@@ -90,14 +89,14 @@ module _ (v : Service) (x y : List ℕ) (i t : ℕ) (h : i ≤ length x) (g : t 
   unfolding isHeader tagAt
   header-longer e =
       ap
-      (λ (k : List Tok). eqb (codeOf (valueOf k)) UNB && (eqb (codeOf (valueAt (elements k) 1 1)) 307 && isReference (length (valueAt (elements k) 5 0))))
+      (λ (k : List Tok). says (valueOf k) "UNB" && (says (valueAt (elements k) 1 1) "3" && isReference (length (valueAt (elements k) 5 0))))
       (ap (lex v false) (drop-append-le i x y h) ∙ lex-part v false i (drop i x) y t e)
 
 -- what follows a segment
 pub after-end : (v : Service) (s : List ℕ) (i t : ℕ) → endFrom v false i (drop i s) ≡ At t → segmentsFrom v s i ≡ finished i t ∷ segmentsAfter v s (t + 1)
 after-end v s i t e = rest-at v s i (At t) (sym e) t refl .same ∙ ap (λ (l : List Piece). finished i t ∷ l) (gap-start v 0 (t + 1) (t + 1) (drop (t + 1) s))
 
-module _ (s : List ℕ) (w : Bytes s) (v : Service) (first : ℕ) (o : openingOf s ≡ Opens v first) where
+module _ (s : List ℕ) (v : Service) (first : ℕ) (o : openingOf s ≡ Opens v first) where
   -- the UNB ends here
   pub unb-end : endFrom v false first (drop first s) ≡ At (header s v first o .term)
   unb-end = let h = header s v first o in end-is v s [] first (Finished (h .term) (h .next)) (h .at) (h .term) (h .next) refl
@@ -107,10 +106,10 @@ module _ (s : List ℕ) (w : Bytes s) (v : Service) (first : ℕ) (o : openingOf
 
   -- its tag has three bytes
   unb-long : first + 3 ≤ header s v first o .term
+  unfolding tagAt text
   unb-long =
       let h = header s v first o in
-      let e : valueFrom v first s ≡ 85 ∷ 78 ∷ 66 ∷ [] = tag-unb v s first w .0 (h .tag) in
-      let n : length (valueFrom v first s) ≡ 3 = ap length e in
+      let n : length (valueFrom v first s) ≡ 3 = ap length (h .tag) in
       let g = value-short v false first (drop first s) (h .term) unb-end in
       omega arith
 

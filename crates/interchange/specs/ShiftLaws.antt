@@ -8,7 +8,8 @@ use lib.Seq.{drop-append-add, drop-append-le, take-append-le}
 use Rattle.service.specs.declared.Service.{Service}
 use Rattle.segments.specs.SegmentList.{Piece, finished}
 use Rattle.segments.specs.ClearLaws.{Below, nil, fin, unf}
-use Rattle.interchange.specs.Messages.{tagAt, UNH, startOf, pastOf, Kind, head, trailer, last, other, cut, kindOf, Extent, closed, unclosed, startsAt, endsAt, extentBy, extentOf, messagesBy}
+use Rattle.values.specs.Text.{text, sameList}
+use Rattle.interchange.specs.Messages.{tagAt, startOf, pastOf, Kind, head, trailer, last, other, cut, kindOf, Extent, closed, unclosed, startsAt, endsAt, extentBy, extentOf, messagesBy}
 use Rattle.interchange.specs.FindLaws.{extent-starts}
 use Rattle.interchange.specs.Damage.{shifted, From, none, also, bytesOf}
 use Rattle.interchange.specs.DamageLaws.{moved, beginning}
@@ -68,7 +69,7 @@ bytes-until p r l empty = refl
 bytes-until p r l (one m ms h g w) = ap₂ (λ (x : List ℕ) (y : List (List ℕ)). x ∷ y) (bytes-longer p r m h g) (bytes-until p r ms w)
 
 -- those that begin in segments before a UNH at a
-module _ (v : Service) (s : List ℕ) (a b : ℕ) (r : List Piece) (h : tagAt v s a ≡ UNH) where
+module _ (v : Service) (s : List ℕ) (a b : ℕ) (r : List Piece) (h : tagAt v s a ≡ text "UNH") where
   until-by : (k : Kind) (p : Piece) (i : ℕ) (m : Extent) → startOf p ≤ a → pastOf p ≤ a → endsAt m ≤ a → endsAt (extentBy k p i m) ≤ a
   until-by head p i m x y z = x
   until-by trailer p i m x y z = y
@@ -77,7 +78,7 @@ module _ (v : Service) (s : List ℕ) (a b : ℕ) (r : List Piece) (h : tagAt v 
   until-by cut p i m x y z = z
 
   extent-until : (l : List Piece) → Below a l → (i : ℕ) → endsAt (extentOf v s i (l ++ (finished a b ∷ r))) ≤ a
-  unfolding extentOf
+  unfolding extentOf text sameList
   extent-until l nil i = rw h (omega arith)
   extent-until l (fin c t k x y w) i =
       let g : t + 1 ≤ a = omega arith in

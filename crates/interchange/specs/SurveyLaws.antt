@@ -22,7 +22,9 @@ use Rattle.segments.specs.SegmentList.{Piece, finished, segmentsFrom}
 use Rattle.segments.specs.SyncLaws.{rest-nothing}
 use Rattle.segments.specs.ListLaws.{listBy, segments-at, list-nothing, list-finished, list-unfinished}
 use Rattle.interchange.specs.declared.Survey.{Survey}
-use Rattle.interchange.specs.Messages.{tagAt, UNH, UNT, startOf, Kind, head, trailer, last, other, cut, kindBy, kindOf, extentOf, messagesBy, messagesOf, stays, strayBy, straysOf}
+use Rattle.values.specs.Values.{codeOf}
+use Rattle.interchange.specs.Messages.{tagAt, startOf, Kind, head, trailer, last, other, cut, kindOf, extentOf, messagesBy, messagesOf, stays, strayBy, straysOf}
+use Rattle.interchange.specs.TagLaws.{UNH, UNT, kindCode}
 use Rattle.interchange.specs.Envelope.{afterFirst, bodyOf}
 use Rattle.interchange.specs.KindLaws.{isEnd, end-list, kind-head, kind-trailer, kind-last, kind-other, kind-at}
 
@@ -140,16 +142,16 @@ module _ (v : Service) (s : List ℕ) (i : ℕ) where
     stop-done at l h x inv = none-stopped at l h k c f ∙ sym inv
 
   -- at a finished segment
-  module _ (k : Segment) (c : k ≡ segmentAt v i s) (t n : ℕ) (e : k ≡ segment.Finished t n) (g : ℕ) (q : g ≡ tagAt v s i) where
-    messages-by : (j : Kind) → kindBy g (leb (length s) n) ≡ j → messagesOf v s (segmentsFrom v s i) ≡ messagesBy j (extentOf v s i (segmentsFrom v s n)) (messagesOf v s (segmentsFrom v s n))
+  module _ (k : Segment) (c : k ≡ segmentAt v i s) (t n : ℕ) (e : k ≡ segment.Finished t n) (g : ℕ) (q : g ≡ codeOf (tagAt v s i)) where
+    messages-by : (j : Kind) → kindCode g (leb (length s) n) ≡ j → messagesOf v s (segmentsFrom v s i) ≡ messagesBy j (extentOf v s i (segmentsFrom v s n)) (messagesOf v s (segmentsFrom v s n))
     unfolding messagesOf
     messages-by j w = rw (list-finished v s i k c t n e, kind-at v s i t n g q, w)
 
-    strays-by : (r : Bool) (j : Kind) → kindBy g (leb (length s) n) ≡ j → straysOf v s r (segmentsFrom v s i) ≡ strayBy j r (finished i t) (straysOf v s (stays j r) (segmentsFrom v s n))
+    strays-by : (r : Bool) (j : Kind) → kindCode g (leb (length s) n) ≡ j → straysOf v s r (segmentsFrom v s i) ≡ strayBy j r (finished i t) (straysOf v s (stays j r) (segmentsFrom v s n))
     unfolding straysOf
     strays-by r j w = rw (list-finished v s i k c t n e, kind-at v s i t n g q, w)
 
-    stop-by : (far : ℕ) (j : Kind) → kindBy g (leb (length s) n) ≡ j → stopOf v s far (segmentsFrom v s i) ≡ stopBy j i (stopOf v s far (segmentsFrom v s n))
+    stop-by : (far : ℕ) (j : Kind) → kindCode g (leb (length s) n) ≡ j → stopOf v s far (segmentsFrom v s i) ≡ stopBy j i (stopOf v s far (segmentsFrom v s n))
     unfolding stopOf
     stop-by far j w = rw (list-finished v s i k c t n e, kind-at v s i t n g q, w)
 
@@ -184,7 +186,7 @@ module _ (v : Service) (s : List ℕ) (i : ℕ) where
 
         -- no UNH: a UNT or any other
         module _ (z : g ≡ UNH → ⊥) where
-          rest-by : (u : Bool) → eqb g UNT ≡ u → kindBy g (leb (length s) n) ≡ if u trailer other
+          rest-by : (u : Bool) → eqb g UNT ≡ u → kindCode g (leb (length s) n) ≡ if u trailer other
           rest-by true w = kind-trailer g (leb (length s) n) (eqb-true g UNT w)
           rest-by false w = kind-other s g n z (eqb-false g UNT w) b d y
 

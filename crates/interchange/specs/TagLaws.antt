@@ -1,78 +1,52 @@
--- The numbers of the tags are the codes of their letters, and a tag has such a code exactly if it is these letters. Assumes nothing.
-use Prim.Native.Nat.{ℕ, suc, zero, _≤_, _<_}
-use native.Mathlib.Omega.{arith}
-use mathlib.Core.Path.{_≡_, refl, sym, _∙_, ap}
-use mathlib.Core.List.{List, [], _∷_}
-use lib.ListN.{length}
-use Rattle.service.specs.declared.Service.{Service}
-use Rattle.values.specs.Numbers.{Bytes}
-use Rattle.values.specs.Values.{valueFrom, valueIn, codeFrom, codeOf}
-use Rattle.values.specs.ByteLaws.{value-bytes, component-bytes}
-use Rattle.values.specs.CodeLaws.{code-one}
-use Rattle.interchange.specs.Messages.{tagAt, UNB, UNH, UNT, UNZ}
+-- The tags and the syntax version by their codes, as the code compares them. Assumes nothing.
+use Prim.Native.Nat.{ℕ}
+use mathlib.Core.Path.{_≡_, refl}
+use mathlib.Core.List.{List}
+use mathlib.Core.Bool.{Bool}
+use lib.Dec.{eqb}
+use Rattle.segments.specs.Classes.{if}
+use Rattle.values.specs.Text.{text, says}
+use Rattle.values.specs.Values.{codeFrom, codeOf}
+use Rattle.values.specs.TextLaws.{says-code}
+use Rattle.interchange.specs.Messages.{Kind, head, trailer, last, other, kindBy}
 
--- U N B, U N H, U N T and U N Z
-pub unb-letters : UNB ≡ codeOf (85 ∷ 78 ∷ 66 ∷ [])
-unfolding codeFrom
-unb-letters = refl
+abbrev pub UNB : ℕ
+UNB = 22367810
 
-pub unh-letters : UNH ≡ codeOf (85 ∷ 78 ∷ 72 ∷ [])
-unfolding codeFrom
-unh-letters = refl
+abbrev pub UNH : ℕ
+UNH = 22367816
 
-pub unt-letters : UNT ≡ codeOf (85 ∷ 78 ∷ 84 ∷ [])
-unfolding codeFrom
-unt-letters = refl
+abbrev pub UNT : ℕ
+UNT = 22367828
 
-pub unz-letters : UNZ ≡ codeOf (85 ∷ 78 ∷ 90 ∷ [])
-unfolding codeFrom
-unz-letters = refl
+abbrev pub UNZ : ℕ
+UNZ = 22367834
 
--- "3", the syntax version
-pub three-letter : 307 ≡ codeOf (51 ∷ [])
-unfolding codeFrom
-three-letter = refl
+module _ (l : List ℕ) where
+  pub unb-code : says l "UNB" ≡ eqb (codeOf l) UNB
+  unfolding text codeFrom
+  unb-code = says-code l "UNB" refl
 
-three-bytes : (c : ℕ) → c < 256 → Bytes (85 ∷ 78 ∷ c ∷ [])
-three-bytes c h zero = omega arith
-three-bytes c h (suc zero) = omega arith
-three-bytes c h (suc (suc zero)) = h
-three-bytes c h (suc (suc (suc k))) = omega arith
+  pub unh-code : says l "UNH" ≡ eqb (codeOf l) UNH
+  unfolding text codeFrom
+  unh-code = says-code l "UNH" refl
 
-one-byte : Bytes (51 ∷ [])
-one-byte zero = omega arith
-one-byte (suc k) = omega arith
+  pub unt-code : says l "UNT" ≡ eqb (codeOf l) UNT
+  unfolding text codeFrom
+  unt-code = says-code l "UNT" refl
 
--- the one holds exactly if the other does
-abbrev pub Exactly : Type 0 → Type 0 → Type 0
-Exactly A B = (A → B) × (B → A)
+  pub unz-code : says l "UNZ" ≡ eqb (codeOf l) UNZ
+  unfolding text codeFrom
+  unz-code = says-code l "UNZ" refl
 
-module _ (v : Service) (s : List ℕ) (i : ℕ) (w : Bytes s) where
-  letters : (n c : ℕ) → c < 256 → n ≡ codeOf (85 ∷ 78 ∷ c ∷ []) → Exactly (tagAt v s i ≡ n) (valueFrom v i s ≡ 85 ∷ 78 ∷ c ∷ [])
-  unfolding tagAt
-  letters n c h e =
-      let g : length (85 ∷ 78 ∷ c ∷ []) ≤ 7 = omega arith in (
-        λ q. sym (code-one (85 ∷ 78 ∷ c ∷ []) (valueFrom v i s) (three-bytes c h) (value-bytes v i s w) g (sym (q ∙ e))),
-        λ q. ap codeOf q ∙ sym e,
-      )
+  -- the syntax version
+  pub three-code : says l "3" ≡ eqb (codeOf l) 307
+  unfolding text codeFrom
+  three-code = says-code l "3" refl
 
-  -- the tag has the code UNB exactly if its value is the three bytes U N B, and so for the others
-  pub tag-unb : Exactly (tagAt v s i ≡ UNB) (valueFrom v i s ≡ 85 ∷ 78 ∷ 66 ∷ [])
-  tag-unb = letters UNB 66 (omega arith) unb-letters
+-- what a segment is to the envelope, by the code of its tag
+abbrev pub kindCode : ℕ → Bool → Kind
+kindCode g e = if (eqb g UNH) head (if (eqb g UNT) trailer (if (eqb g UNZ) (if e last other) other))
 
-  pub tag-unh : Exactly (tagAt v s i ≡ UNH) (valueFrom v i s ≡ 85 ∷ 78 ∷ 72 ∷ [])
-  tag-unh = letters UNH 72 (omega arith) unh-letters
-
-  pub tag-unt : Exactly (tagAt v s i ≡ UNT) (valueFrom v i s ≡ 85 ∷ 78 ∷ 84 ∷ [])
-  tag-unt = letters UNT 84 (omega arith) unt-letters
-
-  pub tag-unz : Exactly (tagAt v s i ≡ UNZ) (valueFrom v i s ≡ 85 ∷ 78 ∷ 90 ∷ [])
-  tag-unz = letters UNZ 90 (omega arith) unz-letters
-
-  -- the syntax version is the one byte 3
-  pub version-three : Exactly (codeOf (valueIn v i s 1 1) ≡ 307) (valueIn v i s 1 1 ≡ 51 ∷ [])
-  version-three =
-      let g : length {A = ℕ} (51 ∷ []) ≤ 7 = omega arith in (
-        λ q. sym (code-one (51 ∷ []) (valueIn v i s 1 1) one-byte (component-bytes v i s 1 1 w) g (sym (q ∙ three-letter))),
-        λ q. ap codeOf q ∙ sym three-letter,
-      )
+pub kind-code : (l : List ℕ) (e : Bool) → kindBy l e ≡ kindCode (codeOf l) e
+kind-code l e = rw (unh-code l, unt-code l, unz-code l)

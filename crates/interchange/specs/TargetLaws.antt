@@ -4,12 +4,13 @@ use native.Mathlib.Omega.{arith}
 use mathlib.Core.Path.{_≡_, refl, sym, _∙_, ap, ap₂, subst}
 use mathlib.Core.List.{List, [], _∷_, _++_, append-assoc}
 use mathlib.Core.Bool.{Bool, true, false}
-use lib.Dec.{T, eqb}
-use borrow.Author.Tests.{eqb-true}
+use lib.Dec.{T}
 use Rattle.service.specs.declared.Service.{Service}
 use Rattle.segments.specs.Classes.{if}
 use Rattle.segments.specs.SegmentList.{Piece, finished, unfinished, allFinished}
-use Rattle.interchange.specs.Messages.{tagAt, UNH, UNT, UNZ, startOf, isNone, Kind, head, trailer, last, other, cut, kindBy, kindOf, Extent, closed, startsAt, extentBy, extentOf, messagesBy, messagesOf}
+use Rattle.values.specs.Text.{text, sameList, says}
+use Rattle.values.specs.TextLaws.{same-eq}
+use Rattle.interchange.specs.Messages.{tagAt, startOf, isNone, Kind, head, trailer, last, other, cut, kindBy, kindOf, Extent, closed, startsAt, extentBy, extentOf, messagesBy, messagesOf}
 use Rattle.interchange.specs.FindLaws.{extent-starts}
 use Rattle.interchange.specs.CloseLaws.{Tidy, nil, one, more}
 use Rattle.interchange.specs.Damage.{lastClosed, Before, here, later, Target}
@@ -17,25 +18,25 @@ use Rattle.interchange.specs.DamageLaws.{beginning}
 use Rattle.interchange.specs.BeforeLaws.{stands}
 
 -- ---- a kind says the tag
-head-by : (g : ℕ) (t u x e : Bool) → eqb g UNH ≡ t → if t head (if u trailer (if x (if e last other) other)) ≡ head → g ≡ UNH
-head-by g true u x e p q = eqb-true g UNH p
+head-by : (g : List ℕ) (t u x e : Bool) → says g "UNH" ≡ t → if t head (if u trailer (if x (if e last other) other)) ≡ head → g ≡ text "UNH"
+head-by g true u x e p q = same-eq g (text "UNH") p
 head-by g false true x e p q = absurd (let z : _≡_ {A = ℕ} 0 1 = cc in omega arith)
 head-by g false false true true p q = absurd (let z : _≡_ {A = ℕ} 0 1 = cc in omega arith)
 head-by g false false true false p q = absurd (let z : _≡_ {A = ℕ} 0 1 = cc in omega arith)
 head-by g false false false e p q = absurd (let z : _≡_ {A = ℕ} 0 1 = cc in omega arith)
 
-head-tag : (g : ℕ) (e : Bool) → kindBy g e ≡ head → g ≡ UNH
-head-tag g e q = head-by g (eqb g UNH) (eqb g UNT) (eqb g UNZ) e refl q
+pub head-tag : (g : List ℕ) (e : Bool) → kindBy g e ≡ head → g ≡ text "UNH"
+head-tag g e q = head-by g (says g "UNH") (says g "UNT") (says g "UNZ") e refl q
 
-trailer-by : (g : ℕ) (t u x e : Bool) → eqb g UNT ≡ u → if t head (if u trailer (if x (if e last other) other)) ≡ trailer → g ≡ UNT
+trailer-by : (g : List ℕ) (t u x e : Bool) → says g "UNT" ≡ u → if t head (if u trailer (if x (if e last other) other)) ≡ trailer → g ≡ text "UNT"
 trailer-by g true u x e p q = absurd (let z : _≡_ {A = ℕ} 0 1 = cc in omega arith)
-trailer-by g false true x e p q = eqb-true g UNT p
+trailer-by g false true x e p q = same-eq g (text "UNT") p
 trailer-by g false false true true p q = absurd (let z : _≡_ {A = ℕ} 0 1 = cc in omega arith)
 trailer-by g false false true false p q = absurd (let z : _≡_ {A = ℕ} 0 1 = cc in omega arith)
 trailer-by g false false false e p q = absurd (let z : _≡_ {A = ℕ} 0 1 = cc in omega arith)
 
-trailer-tag : (g : ℕ) (e : Bool) → kindBy g e ≡ trailer → g ≡ UNT
-trailer-tag g e q = trailer-by g (eqb g UNH) (eqb g UNT) (eqb g UNZ) e refl q
+trailer-tag : (g : List ℕ) (e : Bool) → kindBy g e ≡ trailer → g ≡ text "UNT"
+trailer-tag g e q = trailer-by g (says g "UNH") (says g "UNT") (says g "UNZ") e refl q
 
 -- ---- the UNH of a closed message, and what stands before and after it
 pub record Split (v : Service) (s : List ℕ) (l : List Piece) (before : List Extent) (a e : ℕ) (after : List Extent) : Type 0 where
@@ -43,7 +44,7 @@ pub record Split (v : Service) (s : List ℕ) (l : List Piece) (before : List Ex
   pub term : ℕ
   pub back : List Piece
   pub is : l ≡ front ++ (finished a term ∷ back)
-  pub tag : tagAt v s a ≡ UNH
+  pub tag : tagAt v s a ≡ text "UNH"
   pub begins : beginning v s front (finished a term ∷ back) ≡ before
   pub extent : extentOf v s a back ≡ closed a e
   pub rest : messagesOf v s back ≡ after
@@ -117,7 +118,7 @@ pub record Ending (v : Service) (s : List ℕ) (l : List Piece) (e : ℕ) : Type
   pub rest : List Piece
   pub is : l ≡ mid ++ (finished start term ∷ rest)
   pub ends : term + 1 ≡ e
-  pub tag : tagAt v s start ≡ UNT
+  pub tag : tagAt v s start ≡ text "UNT"
   pub same : messagesOf v s l ≡ messagesOf v s rest
 
 module _ (v : Service) (s : List ℕ) (a e : ℕ) where
@@ -169,7 +170,7 @@ abbrev with : Bool → Extent → List Extent → List Extent
 with true m l = m ∷ l
 with false m l = l
 
-module _ (v : Service) (s : List ℕ) (a b : ℕ) (r : List Piece) (h : tagAt v s a ≡ UNH) where
+module _ (v : Service) (s : List ℕ) (a b : ℕ) (r : List Piece) (h : tagAt v s a ≡ text "UNH") where
   nonempty : (l : List Piece) → isNone (l ++ (finished a b ∷ r)) ≡ false
   nonempty [] = refl
   nonempty (p ∷ l) = refl
@@ -189,11 +190,11 @@ module _ (v : Service) (s : List ℕ) (a b : ℕ) (r : List Piece) (h : tagAt v 
   open-by c t l ih false false true true w q i o g = absurd (subst T w tt)
 
   open-last : (l : List Piece) (q : Bool) (i : ℕ) (o : Bool) → stands v s q l ≡ true → lastClosed o (with q (extentOf v s i (l ++ (finished a b ∷ r))) (beginning v s l (finished a b ∷ r))) ≡ false
-  unfolding stands lastClosed extentOf beginning
+  unfolding stands lastClosed extentOf beginning text sameList
   open-last [] true i o g = rw h refl
   open-last [] false i o g = absurd (subst T (sym g) tt)
   open-last (finished c t ∷ l) q i o g =
-      open-by c t l (λ (q : Bool) (i : ℕ) (o : Bool) g. open-last l q i o g) (eqb (tagAt v s c) UNH) (eqb (tagAt v s c) UNT) (eqb (tagAt v s c) UNZ) (isNone (l ++ (finished a b ∷ r))) (nonempty l) q i o g
+      open-by c t l (λ (q : Bool) (i : ℕ) (o : Bool) g. open-last l q i o g) (says (tagAt v s c) "UNH") (says (tagAt v s c) "UNT") (says (tagAt v s c) "UNZ") (isNone (l ++ (finished a b ∷ r))) (nonempty l) q i o g
   open-last (unfinished c u ∷ l) true i o g = open-last l true i o g
   open-last (unfinished c u ∷ l) false i o g = open-last l false i o g
 

@@ -20,9 +20,10 @@ use Rattle.segments.specs.SegmentsLaws.{segment-nothing, segment-by}
 use Rattle.segments.specs.SegmentList.{Piece, finished, unfinished, segmentsFrom, segmentsAfter}
 use Rattle.segments.specs.SyncLaws.{skipped, rest-nothing}
 use Rattle.segments.specs.ListLaws.{list-nothing, list-finished, list-unfinished, segments-after}
+use Rattle.values.specs.Text.{says}
 use Rattle.interchange.specs.declared.Found.{Found}
 use Rattle.interchange.specs.declared.Found.the-variants as found
-use Rattle.interchange.specs.Messages.{tagAt, UNH, UNT, UNZ, isNone, Kind, head, trailer, last, other, cut, kindBy, kindOf, Extent, unclosed, startsAt, endsAt, extentBy, extentOf, messagesBy, messagesOf, cutBefore, cutAny, foundOne, foundBy, foundIn, foundFrom}
+use Rattle.interchange.specs.Messages.{tagAt, isNone, Kind, head, trailer, last, other, cut, kindBy, kindOf, Extent, unclosed, startsAt, endsAt, extentBy, extentOf, messagesBy, messagesOf, cutBefore, cutAny, foundOne, foundBy, foundIn, foundFrom}
 use Rattle.interchange.specs.FindLaws.{extent-starts}
 use Rattle.interchange.specs.Walk.{Walks, done, step, Own, none, also}
 
@@ -49,8 +50,8 @@ pub record Both (v : Service) (s : List ℕ) (l : List Piece) : Type 0 where
   pub out : (p : ℕ) → foundFrom v s p ≡ foundIn v s l → Walks v s p (messagesOf v s l)
   pub ins : (a : ℕ) → Walks v s (endsAt (extentOf v s a l)) (messagesOf v s l)
 
-never-cut : (g : ℕ) (e : Bool) → kindBy g e ≡ cut → ⊥
-never-cut g e w = by (eqb g UNH) (eqb g UNT) (eqb g UNZ) e w
+never-cut : (g : List ℕ) (e : Bool) → kindBy g e ≡ cut → ⊥
+never-cut g e w = by (says g "UNH") (says g "UNT") (says g "UNZ") e w
   where
     by : (t u x e : Bool) → if t head (if u trailer (if x (if e last other) other)) ≡ cut → ⊥
     by true u x e w = let z : _≡_ {A = ℕ} 0 1 = cc in omega arith

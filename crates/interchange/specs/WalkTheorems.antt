@@ -4,8 +4,7 @@ use mathlib.Core.Path.{_≡_, refl, sym, _∙_, ap, subst}
 use mathlib.Core.List.{List, [], _∷_}
 use mathlib.Core.Bool.{Bool, true, false}
 use lib.ListN.{length, drop}
-use lib.Dec.{T, eqb}
-use borrow.Author.Tests.{eqb-true}
+use lib.Dec.{T}
 use Rattle.service.specs.declared.Service.{Service}
 use Rattle.service.specs.ServiceLaws.{and-left}
 use Rattle.segments.specs.declared.Segment.{Segment}
@@ -14,9 +13,11 @@ use Rattle.segments.specs.Bytes.{pastBreaks}
 use Rattle.segments.specs.Segments.{segmentAt}
 use Rattle.segments.specs.SegmentList.{Piece, finished, unfinished, segmentsFrom, segmentsAfter}
 use Rattle.segments.specs.ListLaws.{list-nothing, list-finished, list-unfinished, segments-after}
+use Rattle.values.specs.Text.{text, sameList, says}
+use Rattle.values.specs.TextLaws.{same-eq}
 use Rattle.interchange.specs.declared.Opening.the-variants.{Opens}
 use Rattle.interchange.specs.declared.Closing.{Closing}
-use Rattle.interchange.specs.Messages.{tagAt, UNB, messagesOf, cutAny, foundIn, foundFrom}
+use Rattle.interchange.specs.Messages.{tagAt, messagesOf, cutAny, foundIn, foundFrom}
 use Rattle.interchange.specs.Envelope.{isHeader, headed, isUnz, lastUnz, openingOf, afterFirst, bodyOf, closedBy, closingBy, closingOf}
 use Rattle.interchange.specs.Opened.{opened}
 use Rattle.interchange.specs.CloseLaws.{Tidy, nil, one, more, tidy-pieces}
@@ -39,16 +40,16 @@ pub record Header (v : Service) (s : List ℕ) (first : ℕ) : Type 0 where
   pub here : segmentsFrom v s first ≡ finished first term ∷ segmentsFrom v s next
   pub past : next ≡ pastAt v s first
   pub rests : pastBreaks next (drop next s) ≡ next
-  pub tag : tagAt v s first ≡ UNB
+  pub tag : tagAt v s first ≡ text "UNB"
   pub body : Placed v s (segmentsFrom v s next)
 
 cut-list : (a e : ℕ) (l : List Piece) → l ≡ unfinished a e ∷ [] → cutAny l ≡ false → ⊥
 unfolding cutAny
 cut-list a e l q w = subst T (ap cutAny (sym q) ∙ w) tt
 
-header-tag : (v : Service) (s : List ℕ) (i t : ℕ) (l : List Piece) → headed v s (finished i t ∷ l) ≡ true → tagAt v s i ≡ UNB
+header-tag : (v : Service) (s : List ℕ) (i t : ℕ) (l : List Piece) → headed v s (finished i t ∷ l) ≡ true → tagAt v s i ≡ text "UNB"
 unfolding isHeader
-header-tag v s i t l e = eqb-true (tagAt v s i) UNB (and-left (eqb (tagAt v s i) UNB) _ e)
+header-tag v s i t l e = same-eq (tagAt v s i) (text "UNB") (and-left (says (tagAt v s i) "UNB") _ e)
 
 header-by : (v : Service) (s : List ℕ) (first : ℕ) → headed v s (segmentsFrom v s first) ≡ true → cutAny (segmentsFrom v s first) ≡ false → (k : Segment) → k ≡ segmentAt v first s → Header v s first
 unfolding cutAny
@@ -67,8 +68,8 @@ header-by v s first h w (segment.Finished t n) c =
 header-by v s first h w segment.Unfinished c = absurd (cut-list first (length s) (segmentsFrom v s first) (list-unfinished v s first segment.Unfinished c refl) w)
 header-by v s first h w segment.Nothing c = absurd (subst T (sym (ap (headed v s) (sym (list-nothing v s first segment.Nothing c refl)) ∙ h)) tt)
 
-pub unb-other : (v : Service) (s : List ℕ) (i t : ℕ) (l : List Piece) → tagAt v s i ≡ UNB → messagesOf v s (finished i t ∷ l) ≡ messagesOf v s l
-unfolding messagesOf
+pub unb-other : (v : Service) (s : List ℕ) (i t : ℕ) (l : List Piece) → tagAt v s i ≡ text "UNB" → messagesOf v s (finished i t ∷ l) ≡ messagesOf v s l
+unfolding messagesOf text sameList
 unb-other v s i t l e = rw e refl
 
 module _ (s : List ℕ) (v : Service) (first : ℕ) (o : openingOf s ≡ Opens v first) where

@@ -16,8 +16,7 @@ use Rattle.segments.specs.SegmentList.{Piece, finished, segmentsFrom, segmentsA
 use Rattle.segments.specs.ListLaws.{segments-after}
 use Rattle.segments.specs.UnaLaws.{plain-letter, comp-class, letter-u, letter-n, letter-a, una-segment}
 use Rattle.parts.specs.Lex.{lex, valueOf}
-use Rattle.values.specs.Numbers.{Bytes}
-use Rattle.values.specs.Values.{codeFrom, codeOf}
+use Rattle.values.specs.Text.{text, sameList}
 use Rattle.interchange.specs.declared.Opening.the-variants.{Opens}
 use Rattle.interchange.specs.Messages.{tagAt, messagesOf, foundIn, foundFrom}
 use Rattle.interchange.specs.Envelope.{firstAt, openingOf, bodyOf}
@@ -34,18 +33,18 @@ una-lex v f c x e =
     let k : classOf v c ≡ Comp = ap (classOf v) e ∙ comp-class v f in
     simp (plain-letter v f 85 letter-u, plain-letter v f 78 letter-n, plain-letter v f 65 letter-a, k)
 
-pub una-tag : (s : List ℕ) (v : Service) → charactersOf s ≡ Fit v 9 → tagAt v s 0 ≡ codeOf (85 ∷ 78 ∷ 65 ∷ [])
-unfolding tagAt
+pub una-tag : (s : List ℕ) (v : Service) → charactersOf s ≡ Fit v 9 → tagAt v s 0 ≡ text "UNA"
+unfolding tagAt text
 una-tag s v q =
     let d = named s v q in
-    ap (λ (l : List ℕ). codeOf (valueOf (lex v false l))) (nine s (d .long) ∙ rw (d .first, d .second, d .third) refl)
-    ∙ ap codeOf (una-lex v (characters-fit s v 9 q .0) (getD s 3 0) (getD s 4 0 ∷ getD s 5 0 ∷ getD s 6 0 ∷ getD s 7 0 ∷ getD s 8 0 ∷ drop 9 s) (d .names .component))
+    ap (λ (l : List ℕ). valueOf (lex v false l)) (nine s (d .long) ∙ rw (d .first, d .second, d .third) refl)
+    ∙ (una-lex v (characters-fit s v 9 q .0) (getD s 3 0) (getD s 4 0 ∷ getD s 5 0 ∷ getD s 6 0 ∷ getD s 7 0 ∷ getD s 8 0 ∷ drop 9 s) (d .names .component))
 
-una-other : (v : Service) (s : List ℕ) (l : List Piece) → tagAt v s 0 ≡ codeOf (85 ∷ 78 ∷ 65 ∷ []) → messagesOf v s (finished 0 8 ∷ l) ≡ messagesOf v s l
-unfolding messagesOf codeFrom
+una-other : (v : Service) (s : List ℕ) (l : List Piece) → tagAt v s 0 ≡ text "UNA" → messagesOf v s (finished 0 8 ∷ l) ≡ messagesOf v s l
+unfolding messagesOf text sameList
 una-other v s l e = rw e refl
 
-module _ (s : List ℕ) (w : Bytes s) (v : Service) (first : ℕ) (o : openingOf s ≡ Opens v first) where
+module _ (s : List ℕ) (v : Service) (first : ℕ) (o : openingOf s ≡ Opens v first) where
   -- the messages read from the first byte are those read from the UNB, and the same is found
   record Alike : Type 0 where
     messages : allMessages v s ≡ messagesOf v s (segmentsFrom v s first)
@@ -59,7 +58,7 @@ module _ (s : List ℕ) (w : Bytes s) (v : Service) (first : ℕ) (o : openingOf
       ⊎-elim
       (λ (e : f .una ≡ 0).
       let z : 0 ≡ first = ap (firstAt s) (sym e) ∙ f .begins in
-      let g : segmentsAfter v s 0 ≡ segmentsFrom v s first = ap (segmentsAfter v s) z ∙ segments-after v s first first (sym (first-settled s w v first o)) in
+      let g : segmentsAfter v s 0 ≡ segmentsFrom v s first = ap (segmentsAfter v s) z ∙ segments-after v s first first (sym (first-settled s v first o)) in
       record { messages = ap (messagesOf v s) g; finds = ap (foundIn v s) g })
       (λ (e : f .una ≡ 9).
       let q : charactersOf s ≡ Fit v 9 = f .named ∙ ap (Fit v) e in

@@ -1,12 +1,12 @@
 // The envelope of an interchange, and where its messages lie.
 ghost use mathlib.Core.Path.{_≡_};
 ghost use Rattle.segments.specs.SegmentList.{segmentsFrom};
+ghost use Rattle.values.specs.Values.{codeOf};
 ghost use Rattle.interchange.specs.Messages.{tagAt, foundFrom};
 ghost use Rattle.interchange.specs.Envelope.{isReference, isHeader, ended, firstAt, refusal, openedBy, openingOf, closingNumber, closingOf};
 ghost use Rattle.interchange.specs.KindLaws.{isEnd};
 ghost use Rattle.interchange.specs.FindLaws.{endFound};
 ghost use Rattle.interchange.specs.SurveyLaws.{Surveyed, pastAt};
-ghost use Rattle.interchange.specs.Extent.{Within, Sought, Short};
 use segments::Segment;
 use service::Characters;
 use service::Service;
@@ -69,8 +69,8 @@ pub fn refuse(number: u32) -> Refusal
 }
 
 // The tag of the segment that begins at `at`, as a code.
-pub fn tag_at(s: &[u8], at: usize, v: Service) -> u64
-    ensures { λ r. ⌜ r ≡ tagAt v (now (s .entry)) at ⌝ }
+fn tag_at(s: &[u8], at: usize, v: Service) -> u64
+    ensures { λ r. ⌜ r ≡ codeOf (tagAt v (now (s .entry)) at) ⌝ }
 {
     values::code_at(s, at, v)
 }
@@ -148,7 +148,6 @@ fn open_with(s: &[u8], v: Service, una: usize) -> Opening
 // Whether the bytes are an interchange that opens.
 pub fn open(s: &[u8]) -> Opening
     ensures { λ r. ⌜ r ≡ openingOf (now (s .entry)) ⌝ }
-    ensures { λ r. ⌜ Short (now (s .entry)) r ⌝ }
 {
     if MOST < s.len() {
         return Opening::Refused(refuse(1));
@@ -173,7 +172,6 @@ fn is_end(s: &[u8], tag: u64, next: usize) -> bool
 // The end of the message that begins at `start`, sought from the segment at `from` on.
 fn find_end(s: &[u8], start: usize, from: usize, v: Service) -> Found
     ensures { λ r. ⌜ r ≡ endFound v (now (s .entry)) start (segmentsFrom v (now (s .entry)) from) ⌝ }
-    ensures { λ r. ⌜ Sought (now (s .entry)) start from r ⌝ }
 {
     let mut i = from;
     loop {
@@ -205,7 +203,6 @@ fn find_end(s: &[u8], start: usize, from: usize, v: Service) -> Found
 // The next message from the position `at` on, which is read as though a terminator stood just before.
 pub fn find(s: &[u8], at: usize, v: Service) -> Found
     ensures { λ r. ⌜ r ≡ foundFrom v (now (s .entry)) at ⌝ }
-    ensures { λ r. ⌜ Within (now (s .entry)) at r ⌝ }
 {
     let mut i = segments::skip_breaks(s, at);
     loop {
@@ -307,7 +304,7 @@ pub fn close(s: &[u8]) -> Closing
 }
 
 // Where the segment after the one at `at` begins, or the end of the bytes.
-pub fn past(s: &[u8], at: usize, v: Service) -> usize
+fn past(s: &[u8], at: usize, v: Service) -> usize
     ensures { λ r. ⌜ r ≡ pastAt v (now (s .entry)) at ⌝ }
 {
     let g = segments::segment_at(s, at, v);

@@ -1,5 +1,5 @@
 -- Entries past the count keep their content.
-use Prim.Native.Nat.{ℕ, _≤_}
+use Prim.Native.Nat.{ℕ}
 use mathlib.Core.Path.{_≡_}
 use mathlib.Core.List.{List}
 use lib.ListN.{length, drop}
@@ -8,8 +8,3 @@ use lib.ListN.{length, drop}
 pub record Kept (n : ℕ) (old new : List ℕ) : Type 0 where
   pub long : length new ≡ length old
   pub rest : drop n new ≡ drop n old
-
--- what was written from j on reaches up to k, and the rest is as before
-pub record Onto (j : ℕ) (old new : List ℕ) (k : ℕ) : Type 0 where
-  pub on : j ≤ k
-  pub kept : Kept k old new

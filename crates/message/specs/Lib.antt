@@ -1,4 +1,3 @@
-pub mod Text
 pub mod Segs
 pub mod Rules
 pub mod Faults
@@ -7,5 +6,6 @@ pub mod FirstLaws
 pub mod LevelLaws
 pub mod FaultLaws
 pub mod ValueLaws
+pub mod RowLaws
 pub mod LoopLaws
 pub mod CountLaws

@@ -1,23 +1,23 @@
 -- "Rules on a placed message": for each rule the segments, by their number, at which it is broken. No order of testing is meant by any of them.
 use Prim.Native.Nat.{ℕ, suc, _+_}
 use Prim.Native.String.{String}
-use mathlib.Core.List.{List, [], _∷_, _++_}
+use mathlib.Core.List.{List, [], _∷_, _++_, map}
 use mathlib.Core.Bool.{Bool, true, false, not, _&&_, _||_}
 use lib.ListN.{length}
-use lib.Dec.{eqb, ltb, leb}
+use lib.Dec.{eqb, leb}
 use Rattle.segments.specs.Classes.{if}
 use Rattle.values.specs.declared.Amount.{Amount}
 use Rattle.values.specs.declared.Amount.the-variants.{Of, Not}
 use Rattle.values.specs.Values.{codeOf, sameList, numberOf, isNumber, amountOf, isCapitals}
-use Rattle.message.specs.Text.{says}
+use Rattle.values.specs.Text.{says}
 use Rattle.message.specs.Segs.{Seg, Stretch, those, each, Name, LIN, MOA5, CUX5, FII6, NAD7, PRC10, SEQ, MOA11, FII12, NAD13, PRC16, FTX16, DOC17, CNT, UNT, is, orders, payments, amounts, details}
 
 -- ---- words
--- "Numbers are digits without leading zeros": a value writes the number (NumberLaws: exactly if NumberIs)
+-- "Numbers are digits without leading zeros": a value writes the number (`writes-exactly` of TextLaws: exactly if NumberIs)
 abbrev pub writes : List ℕ → ℕ → Bool
 writes l n = isNumber (numberOf l) n
 
--- "three capitals" (CodeLaws: exactly if ThreeCapitals)
+-- "three capitals" (`capitals-exactly` of TextLaws: exactly if ThreeCapitals)
 abbrev pub capitals : List ℕ → Bool
 capitals l = isCapitals (codeOf l)
 
@@ -58,9 +58,9 @@ failing t [] = []
 failing t (s ∷ ss) = unless (t s) s ++ failing t ss
 
 -- ---- 17, 18, at the UNT
--- 17: "UNT count not the segments, UNH and UNT included"
-unfoldable pub rule17 : List Seg → List ℕ
-rule17 m = failing (λ s. writes (s .value 1 0) (length m)) (those (is UNT) m)
+-- 17: "UNT count not the segments, UNH and UNT included", of which there are n
+unfoldable pub rule17 : ℕ → List Seg → List ℕ
+rule17 n m = failing (λ s. writes (s .value 1 0) n) (those (is UNT) m)
 
 -- the reference of the UNH, which is the first segment
 abbrev pub reference : List Seg → List ℕ
@@ -98,7 +98,7 @@ amount s = s .value 1 1
 abbrev pub currency : Seg → List ℕ
 currency s = s .value 1 2
 
--- 22: "Amounts (MOA directly in SG5 and SG11)": AmountLaws has `amountOf` to be `AmountIs`
+-- 22: "Amounts (MOA directly in SG5 and SG11)" (`amount-exactly` of TextLaws: exactly if AmountIs)
 unfoldable pub rule22 : List Seg → List ℕ
 rule22 m = failing (λ s. isOf (amountOf (amount s))) (those (λ s. is MOA5 s || is MOA11 s) m)
 
@@ -208,11 +208,18 @@ unfoldable pub rule28 : List Seg → List ℕ
 rule28 m = each fault28B (orders m) ++ each fault28C (details m)
 
 -- ---- 29: "CNT with qualifier 2 equals the number of LIN segments. Other CNT qualifiers pass."
-unfoldable pub rule29 : List Seg → List ℕ
-rule29 m = failing (λ s. writes (s .value 1 1) (count (is LIN) m)) (those (λ s. is CNT s && says (s .value 1 0) "2") m)
+unfoldable pub rule29 : ℕ → List Seg → List ℕ
+rule29 n m = failing (λ s. writes (s .value 1 1) n) (those (λ s. is CNT s && says (s .value 1 0) "2") m)
 
--- the rules of a PAYMUL message with their numbers, in the order in which refusals are given
+-- the rules of a PAYMUL message of k segments, n of them LIN, with their numbers, in the order in which refusals are given
+abbrev pub paymulOf : ℕ → ℕ → List Seg → List (ℕ × List ℕ)
+paymulOf k n m =
+    (17, rule17 k m) ∷ (18, rule18 m) ∷ (20, rule20 m) ∷ (21, rule21 m) ∷ (22, rule22 m) ∷ (23, rule23 m) ∷ (24, rule24 m) ∷ (25, rule25 m)
+    ∷ (26, rule26 m) ∷ (27, rule27 m) ∷ (28, rule28 m) ∷ (29, rule29 n m) ∷ []
+
 abbrev pub paymul : List Seg → List (ℕ × List ℕ)
-paymul m =
-    (17, rule17 m) ∷ (18, rule18 m) ∷ (20, rule20 m) ∷ (21, rule21 m) ∷ (22, rule22 m) ∷ (23, rule23 m) ∷ (24, rule24 m) ∷ (25, rule25 m)
-    ∷ (26, rule26 m) ∷ (27, rule27 m) ∷ (28, rule28 m) ∷ (29, rule29 m) ∷ []
+paymul m = paymulOf (length m) (count (is LIN) m) m
+
+-- ---- "the total of every order": the amount of its SG5 MOA
+abbrev pub totalsOf : List Seg → List ℕ
+totalsOf m = map (λ s. worth (amountOf (amount s))) (those (is MOA5) m)

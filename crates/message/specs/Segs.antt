@@ -1,12 +1,13 @@
 -- A placed message: its segments, each with its row and its values. An order is the stretch from a LIN to the next, a payment from a SEQ to the next.
 use Prim.Native.Nat.{ℕ, suc}
+use Prim.Native.String.{String}
 use mathlib.Core.List.{List, [], _∷_, _++_}
 use mathlib.Core.Bool.{Bool, true, false, _||_}
 use lib.Dec.{eqb}
 use Rattle.service.specs.declared.Service.{Service}
 use Rattle.segments.specs.Classes.{if}
 use Rattle.values.specs.Values.{valueIn}
-use Rattle.chart.specs.Tags.{startsOf}
+use Rattle.segments.specs.SegmentList.{startsOf}
 
 -- a segment: "UNH is 1"; its row of the chart; the value of a component of an element
 pub record Seg : Type 0 where
@@ -53,10 +54,30 @@ unfoldable pub each : (Stretch → List ℕ) → List Stretch → List ℕ
 each f [] = []
 each f (t ∷ ts) = f t ++ each f ts
 
--- the rows that rules speak of, by tag and group: MOA5 is the MOA of SG5. `rows-named` of ValueLaws: the table has these tags in these groups
+-- the rows that rules speak of, by tag and group: MOA5 is the MOA of SG5
 pub data Name : Type 0 where
   UNH LIN MOA5 CUX5 FII6 NAD7 PRC10 SEQ MOA11 FII12 NAD13 PRC16 FTX16 DOC17 CNT UNT : Name
 
+-- the tag, and the group in which it stands directly: 4 is SG4, 0 the message
+abbrev pub tagAndGroup : Name → String × ℕ
+tagAndGroup UNH = ("UNH", 0)
+tagAndGroup LIN = ("LIN", 4)
+tagAndGroup MOA5 = ("MOA", 5)
+tagAndGroup CUX5 = ("CUX", 5)
+tagAndGroup FII6 = ("FII", 6)
+tagAndGroup NAD7 = ("NAD", 7)
+tagAndGroup PRC10 = ("PRC", 10)
+tagAndGroup SEQ = ("SEQ", 11)
+tagAndGroup MOA11 = ("MOA", 11)
+tagAndGroup FII12 = ("FII", 12)
+tagAndGroup NAD13 = ("NAD", 13)
+tagAndGroup PRC16 = ("PRC", 16)
+tagAndGroup FTX16 = ("FTX", 16)
+tagAndGroup DOC17 = ("DOC", 17)
+tagAndGroup CNT = ("CNT", 0)
+tagAndGroup UNT = ("UNT", 0)
+
+-- the row's number: `rows-named` of RowLaws, computed over the table, has that this row and no other is a segment of that tag in that group
 abbrev pub rowOf : Name → ℕ
 rowOf UNH = 1
 rowOf LIN = 17

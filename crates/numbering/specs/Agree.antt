@@ -10,7 +10,7 @@ use Rattle.faults.specs.declared.First.the-variants as first
 use Rattle.faults.specs.Firsts.{lesser, placeUnless}
 use Rattle.faults.specs.FirstsLaws.{lesser-last, lesser-group}
 use Rattle.message.specs.Segs.{Seg, Stretch, LIN, SEQ, is, those}
-use Rattle.message.specs.Rules.{writes, unless, misnumbered, fault21, rule20, rule21, rule29, count}
+use Rattle.message.specs.Rules.{writes, unless, misnumbered, fault21, rule20, rule21, rule29}
 use Rattle.message.specs.Run.{run, firstOf, testStep, levelStep, close}
 use Rattle.message.specs.FirstLaws.{none-lesser, first-append, first-unless, first-more, test-tells}
 use Rattle.message.specs.LevelLaws.{goes, Tells, level-tells}
@@ -81,6 +81,6 @@ module _ (n : ℕ) (m : List Seg) where
   unfolding rule21 close
   agree21 = rw (parts n numberingStart m) (sym (lesser-last _) ∙ level-tells level21 fault21 tells21 m)
 
-  pub agree29 : n ≡ count (is LIN) m → run (numberingStep n) numberingStart m .first29 ≡ firstOf (rule29 m)
+  pub agree29 : run (numberingStep n) numberingStart m .first29 ≡ firstOf (rule29 n m)
   unfolding rule29
-  agree29 e = rw (parts n numberingStart m, ← e) (test-tells isControl (controlIs n) m)
+  agree29 = rw (parts n numberingStart m) (test-tells isControl (controlIs n) m)

@@ -12,7 +12,8 @@ use Rattle.faults.specs.declared.First.{First}
 use Rattle.faults.specs.declared.First.the-variants as first
 use Rattle.faults.specs.Firsts.{lesser, placeUnless}
 use Rattle.faults.specs.FirstsLaws.{lesser-last}
-use Rattle.message.specs.Text.{text, letters, says}
+use Rattle.values.specs.Text.{text, says}
+use Rattle.values.specs.TextLaws.{says-code}
 use Rattle.message.specs.Segs.{segAt}
 use Rattle.message.specs.Rules.{writes}
 use Rattle.message.specs.Run.{testStep, levelStep}
@@ -30,16 +31,16 @@ pub implies-not : (a b : Bool) → a ≡ false → true ≡ not a || b
 implies-not a b e = rw e
 
 -- "2"
-two : letters "2" ≡ 306
+two-code : (l : List ℕ) → says l "2" ≡ eqb (codeOf l) 306
 unfolding text codeFrom
-two = refl
+two-code l = says-code l "2" refl
 
 module _ (x : ℕ) (l : List ℕ) (e : x ≡ codeOf l) where
   pub two-so : x ≡ 306 → (t b : Bool) → t ≡ b → t ≡ not (says l "2") || b
-  two-so q t b p = rw (eq-eqb (codeOf l) (letters "2") (sym e ∙ q ∙ sym two)) p
+  two-so q t b p = rw (two-code l, eq-eqb (codeOf l) 306 (sym e ∙ q)) p
 
   pub two-not : (x ≡ 306 → ⊥) → (b : Bool) → true ≡ not (says l "2") || b
-  two-not q b = rw (ne-eqb (codeOf l) (letters "2") (λ w. q (e ∙ w ∙ two)))
+  two-not q b = rw (two-code l, ne-eqb (codeOf l) 306 (λ w. q (e ∙ w)))
 
 tested : (b w : Bool) (f : First) (n : ℕ) → lesser f (placeUnless (not b || w) n) ≡ if b (lesser f (placeUnless w n)) f
 tested true w f n = refl

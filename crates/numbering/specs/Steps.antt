@@ -6,7 +6,7 @@ use Rattle.segments.specs.Classes.{if}
 use Rattle.faults.specs.declared.First.{First}
 use Rattle.faults.specs.declared.First.the-variants as first
 use Rattle.faults.specs.Firsts.{lesser, placeUnless}
-use Rattle.message.specs.Text.{says}
+use Rattle.values.specs.Text.{says}
 use Rattle.message.specs.Segs.{Seg, LIN, SEQ, CNT, is}
 use Rattle.message.specs.Rules.{writes}
 use Rattle.message.specs.Run.{testStep, Level, levelStep}

@@ -3,7 +3,7 @@ ghost use Prim.Native.Nat.{_+_, min};
 ghost use mathlib.Core.Path.{_≡_};
 ghost use mathlib.Core.Bool.{not, _||_};
 ghost use Rattle.values.specs.Values.{valueIn};
-ghost use Rattle.message.specs.Text.{says};
+ghost use Rattle.values.specs.Text.{says};
 ghost use Rattle.message.specs.Segs.{segAt};
 ghost use Rattle.message.specs.Rules.{writes};
 ghost use Rattle.message.specs.ValueLaws.{most};
@@ -29,7 +29,7 @@ pub struct Numbering {
 
 // No number that a value writes reaches the end of the range, so a count may stop there.
 impl LineNumber {
-    pub fn next(self) -> LineNumber
+    fn next(self) -> LineNumber
         ensures { λ r. ⌜ r .0 ≡ min (self .0 + 1) most ⌝ }
     {
         if self.0 < 18446744073709551615 {
@@ -40,7 +40,7 @@ impl LineNumber {
 }
 
 impl SequenceNumber {
-    pub fn next(self) -> SequenceNumber
+    fn next(self) -> SequenceNumber
         ensures { λ r. ⌜ r .0 ≡ min (self .0 + 1) most ⌝ }
     {
         if self.0 < 18446744073709551615 {
@@ -74,10 +74,11 @@ fn line(st: Numbering, m: &[u8], v: Service, at: usize, nth: usize) -> Numbering
     let first20 = faults::keep(first, holds, nth);
     let first21 = st.first21;
     let first29 = st.first29;
+    let sequence = SequenceNumber(0);
     Numbering {
         line: n,
         under: true,
-        sequence: SequenceNumber(0),
+        sequence,
         first20,
         first21,
         first29,

@@ -9,11 +9,12 @@ use borrow.Author.Tests.{eq-eqb, ne-eqb}
 use Rattle.segments.specs.Classes.{if}
 use Rattle.service.specs.declared.Service.{Service}
 use Rattle.values.specs.Values.{valueIn, codeFrom, codeOf}
+use Rattle.values.specs.TextLaws.{says-code}
 use Rattle.faults.specs.declared.First.{First}
 use Rattle.faults.specs.declared.First.the-variants as first
 use Rattle.faults.specs.Firsts.{lesser, placeUnless}
 use Rattle.faults.specs.FirstsLaws.{lesser-last}
-use Rattle.message.specs.Text.{text, letters, says}
+use Rattle.values.specs.Text.{text, says}
 use Rattle.message.specs.Segs.{segAt}
 use Rattle.message.specs.Rules.{isEmpty, alike, orderHolds, paymentHolds}
 use Rattle.message.specs.Run.{levelStep, close}
@@ -59,22 +60,6 @@ module _ (a t n : Bool) where
 
   pub name-none : a ≡ false → t ≡ false → false ≡ if (t && n) true a
   name-none e f = rw (e, f)
-
-module _ (a b : Bool) where
-  pub both-so : a ≡ true → b ≡ a && b
-  both-so e = rw e
-
-  pub both-not : a ≡ false → false ≡ a && b
-  both-not e = rw e
-
-  pub alike-so : a ≡ true → b ≡ alike a b
-  alike-so e = rw e
-
-  pub alike-one : a ≡ false → b ≡ true → false ≡ alike a b
-  alike-one e f = rw (e, f)
-
-  pub alike-none : a ≡ false → b ≡ false → true ≡ alike a b
-  alike-none e f = rw (e, f)
 
 pub order-by : (o : LevelB) (w x y z : Bool) → w ≡ eqb (o .or) 1 && leb (o .pl) 1 → x ≡ w && leb (o .oy) 1 → y ≡ alike (o .named) (eqb (o .pl) 0) → z ≡ x && y → z ≡ orderHolds (o .or) (o .named) (o .pl) (o .oy)
 unfolding orderHolds
@@ -123,42 +108,22 @@ unfolding partiesClose close
 closed st u f a b = rw (b, a)
 
 -- ---- letters
-or-letters : letters "OR" ≡ 85842
-unfolding text codeFrom
-or-letters = refl
-
-pl-letters : letters "PL" ≡ 86092
-unfolding text codeFrom
-pl-letters = refl
-
-oy-letters : letters "OY" ≡ 85849
-unfolding text codeFrom
-oy-letters = refl
-
-bf-letters : letters "BF" ≡ 82502
-unfolding text codeFrom
-bf-letters = refl
-
-pe-letters : letters "PE" ≡ 86085
-unfolding text codeFrom
-pe-letters = refl
-
-be-letters : letters "BE" ≡ 82501
-unfolding text codeFrom
-be-letters = refl
-
 module _ (value : ℕ → ℕ → List ℕ) (x : ℕ) (q : x ≡ codeOf (value 1 0)) (a b : ℕ) (t : Bool) where
   pub order-fii-by : (o : LevelB) → a ≡ moreIf (eqb x 85842) (o .or) → t ≡ if (eqb x 85842 && nameIn value) true (o .named) → levelB (o .lin) a t (o .pl) (o .oy) ≡ orderFii o value
-  order-fii-by o e f = rw (or-letters, ← q, e, f)
+  unfolding text codeFrom
+  order-fii-by o e f = rw (says-code (value 1 0) "OR" refl, ← q, e, f)
 
   pub order-nad-by : (o : LevelB) → a ≡ moreIf (eqb x 86092) (o .pl) → b ≡ moreIf (eqb x 85849) (o .oy) → levelB (o .lin) (o .or) (o .named) a b ≡ orderNad o value
-  order-nad-by o e f = rw (pl-letters, oy-letters, ← q, e, f)
+  unfolding text codeFrom
+  order-nad-by o e f = rw (says-code (value 1 0) "PL" refl, says-code (value 1 0) "OY" refl, ← q, e, f)
 
   pub payment-fii-by : (p : LevelC) → a ≡ moreIf (eqb x 82502) (p .bf) → t ≡ if (eqb x 82502 && nameIn value) true (p .named) → levelC (p .seq) a t (p .pe) (p .be) ≡ paymentFii p value
-  payment-fii-by p e f = rw (bf-letters, ← q, e, f)
+  unfolding text codeFrom
+  payment-fii-by p e f = rw (says-code (value 1 0) "BF" refl, ← q, e, f)
 
   pub payment-nad-by : (p : LevelC) → a ≡ moreIf (eqb x 86085) (p .pe) → b ≡ moreIf (eqb x 82501) (p .be) → levelC (p .seq) (p .bf) (p .named) a b ≡ paymentNad p value
-  payment-nad-by p e f = rw (pe-letters, be-letters, ← q, e, f)
+  unfolding text codeFrom
+  payment-nad-by p e f = rw (says-code (value 1 0) "PE" refl, says-code (value 1 0) "BE" refl, ← q, e, f)
 
 pub start-by : (o : LevelB) (p : LevelC) → o ≡ levelB first.None 0 false 0 0 → p ≡ levelC first.None 0 false 0 0 → record { order = o; orders = first.None; payment = p; payments = first.None } ≡ partiesStart
 start-by o p a b = rw (a, b)

@@ -7,7 +7,7 @@ use Rattle.segments.specs.Classes.{if}
 use Rattle.faults.specs.declared.First.{First}
 use Rattle.faults.specs.declared.First.the-variants as first
 use Rattle.faults.specs.Firsts.{lesser, placeUnless}
-use Rattle.message.specs.Text.{says}
+use Rattle.values.specs.Text.{says}
 use Rattle.message.specs.Segs.{Seg, LIN, FII6, NAD7, SEQ, FII12, NAD13, is}
 use Rattle.message.specs.Rules.{isEmpty, alike, named, party, orderHolds, paymentHolds}
 use Rattle.message.specs.Run.{Level, levelStep, close}

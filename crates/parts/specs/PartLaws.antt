@@ -34,9 +34,6 @@ module _ (v : Service) (p q z : List ℕ) (i t : ℕ) (h : i ≤ length q) (e : 
   pub tokens-in-part : lex v false (drop (length p + i) (p ++ q ++ z)) ≡ lex v false (drop i q)
   tokens-in-part = ap (lex v false) (part-drop p q z i h) ∙ lex-part v false i (drop i q) z t e
 
-  pub value-in-part : (n c : ℕ) → valueAt (elements (lex v false (drop (length p + i) (p ++ q ++ z)))) n c ≡ valueAt (elements (lex v false (drop i q))) n c
-  value-in-part n c = ap (λ (w : List Tok). valueAt (elements w) n c) tokens-in-part
-
 -- the value that a segment begins with stands before its terminator
 short-by : (v : Service) (i b : ℕ) (l : List ℕ) (t : ℕ) (k : Class) → ((q : Bool) → endFrom v q (suc i) l ≡ At t → suc i + length (valueOf (lex v q l)) ≤ t)
     → endBy k i (endFrom v true (suc i) l) (endFrom v false (suc i) l) ≡ At t → i + length (valueOf (lexBy k b (lex v true l) (lex v false l))) ≤ t

@@ -2,7 +2,7 @@
 use Prim.Native.Nat.{ℕ, suc, zero}
 use mathlib.Core.List.{List, [], _∷_}
 use mathlib.Core.Bool.{Bool, true, false, not, _||_}
-use lib.ListN.{getD}
+use lib.ListN.{getD, drop}
 use Rattle.service.specs.declared.Service.{Service}
 use Rattle.service.specs.Service.{within}
 use Rattle.segments.specs.declared.Class.{Class}
@@ -59,6 +59,33 @@ valueOf (byte b ∷ t) = b ∷ valueOf t
 valueOf (comp ∷ t) = []
 valueOf (elem ∷ t) = []
 
--- number 10: "a value byte outside 0x20..0x7E and 0xA0..0xFF"
+-- ---- number 10: "a value byte outside 0x20..0x7E and 0xA0..0xFF"
 unfoldable pub isStrange : ℕ → Bool
 isStrange b = not (within 32 126 b || within 160 255 b)
+
+abbrev pub keep : Bool → ℕ → List ℕ → List ℕ
+keep true b l = b ∷ l
+keep false b l = l
+
+-- the places of such bytes, the next byte standing at i. Value bytes are those that `lex` reads: a plain byte, and any byte behind a release;
+-- separators, releases and the terminator are none.
+abbrev pub strangeBy : Class → List ℕ → List ℕ → List ℕ → List ℕ
+strangeBy Plain here rel on = here
+strangeBy Comp here rel on = on
+strangeBy Elem here rel on = on
+strangeBy Rel here rel on = rel
+strangeBy Term here rel on = []
+
+unfoldable pub strangeFrom : Service → Bool → ℕ → List ℕ → List ℕ
+strangeFrom v r i [] = []
+strangeFrom v true i (b ∷ s) = keep (isStrange b) i (strangeFrom v false (suc i) s)
+strangeFrom v false i (b ∷ s) =
+    strangeBy (classOf v b) (keep (isStrange b) i (strangeFrom v false (suc i) s)) (strangeFrom v true (suc i) s) (strangeFrom v false (suc i) s)
+
+-- those of the segment that begins at a
+abbrev pub strangeIn : Service → List ℕ → ℕ → List ℕ
+strangeIn v m a = strangeFrom v false a (drop a m)
+
+abbrev pub isNil : List ℕ → Bool
+isNil [] = true
+isNil (x ∷ l) = false

@@ -12,15 +12,6 @@ use Rattle.parts.specs.Parts.{lex, valueOf, elements, valueAt}
 use Rattle.parts.specs.Lex.{elemAt, compAt}
 
 module _ (v : Service) (s : List ℕ) (at e c r r′ : ℕ) where
-  pub only-element : lex v false (drop r s) ≡ elemAt e (lex v false (drop at s)) → lex v false (drop r′ s) ≡ elemAt e (lex v false (drop at s)) → lex v false (drop r s) ≡ lex v false (drop r′ s)
-  only-element = only
-
-  pub only-component-of :
-      valueOf (lex v false (drop r s)) ≡ valueOf (compAt c (lex v false (drop at s)))
-      → valueOf (lex v false (drop r′ s)) ≡ valueOf (compAt c (lex v false (drop at s)))
-      → valueOf (lex v false (drop r s)) ≡ valueOf (lex v false (drop r′ s))
-  only-component-of = only
-
   pub only-component :
       valueOf (lex v false (drop r s)) ≡ valueAt (elements (lex v false (drop at s))) e c
       → valueOf (lex v false (drop r′ s)) ≡ valueAt (elements (lex v false (drop at s))) e c

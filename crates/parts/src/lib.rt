@@ -40,7 +40,7 @@ pub fn token_at(s: &[u8], i: usize, v: Service) -> Token
 }
 
 // The position of element `e` of the segment that begins at `at`, or of the segment's end.
-pub fn element(s: &[u8], at: usize, v: Service, e: usize) -> usize
+fn element(s: &[u8], at: usize, v: Service, e: usize) -> usize
     ensures { λ r. ⌜ lex v false (drop r (now (s .entry))) ≡ elemAt e (lex v false (drop at (now (s .entry)))) ⌝ }
 {
     let mut i = at;
@@ -67,7 +67,7 @@ pub fn element(s: &[u8], at: usize, v: Service, e: usize) -> usize
 }
 
 // The position of component `c` of the element that begins at `at`, or a position where the value is empty.
-pub fn component_of(s: &[u8], at: usize, v: Service, c: usize) -> usize
+fn component_of(s: &[u8], at: usize, v: Service, c: usize) -> usize
     ensures { λ r. ⌜ valueOf (lex v false (drop r (now (s .entry)))) ≡ valueOf (compAt c (lex v false (drop at (now (s .entry))))) ⌝ }
 {
     let mut i = at;

@@ -1,80 +1,82 @@
 // Reads an interchange from standard input and reports on each of its messages.
 ghost use Prim.Native.Nat.{_≤_};
+ghost use mathlib.Core.Path.{_≡_};
+ghost use lib.ListN.{length};
+ghost use Rattle.lines.specs.Lines.{messageLine, openLine};
+ghost use Rattle.payreport.specs.Printed.{accepts, Opened, AcceptedOf, LineOf};
 use interchange::Opening;
-use interchange::Refusal;
 use libc::STDIN_FILENO;
 use libc::STDOUT_FILENO;
-use report::Counts;
 use report::Report;
 use walk::Walked;
 
 const MOST: usize = 32768;
 
-fn put(text: &[u8]) {
-    io::write_all(STDOUT_FILENO, text);
-}
-
-fn put_number(n: u64) {
-    put(b" ");
-    io::print_decimal(STDOUT_FILENO, n);
-}
-
-fn put_refused(r: Refusal) {
-    put(b" NO");
-    put_number(r.number as u64);
-    put_number(r.segment as u64);
-    put_number(r.offset as u64);
-    put(b"\n");
-}
-
-fn put_accepted(c: Counts) {
-    put(b" OK");
-    put_number(c.segments as u64);
-    put_number(c.orders as u64);
-    put_number(c.payments as u64);
-    put(b"\n");
-}
-
-// One message's line; 1 if it is accepted.
-fn put_message(place: u64, r: Report) -> u64
-    ensures { λ r. ⌜ r ≤ 1 ⌝ }
+// Hands a line of the report on `s` to standard output.
+fn write_line(s: &[u8], l: &[u8])
+    requires { ⌜ LineOf (now s) (now l) ⌝ }
 {
-    put(b"MSG");
-    put_number(place);
-    match r {
-        Report::Accepted(c) => {
-            put_accepted(c);
-            1
-        }
-        Report::Refused(f) => {
-            put_refused(f);
-            0
-        }
-    }
+    io::write_all(STDOUT_FILENO, l);
+}
+
+// One message's line.
+fn put_message(s: &[u8], place: u64, told: Report)
+    requires { ⌜ LineOf (now s) (messageLine place told) ⌝ }
+{
+    let mut room = [0u8; 128];
+    let n = lines::message_line(place, told, &mut room);
+    write_line(s, &room[..n]);
 }
 
 // The last line, after the messages.
-fn put_end(s: &[u8], accepted: u64) {
+fn put_end(s: &[u8], accepted: u64)
+    requires { ⌜ Opened (now s) ⌝ }
+    requires { ⌜ AcceptedOf (now s) accepted ⌝ }
+{
     let c = interchange::close(s);
-    put(b"END");
-    put_number(c.messages);
-    put_number(accepted);
-    put_number(c.strays);
-    put_number(c.number as u64);
-    put(b"\n");
+    let mut room = [0u8; 128];
+    let n = lines::end_line(c.messages, accepted, c.strays, c.number as u64, &mut room);
+    write_line(s, &room[..n]);
+}
+
+// The only line, where the interchange does not open.
+fn put_open(s: &[u8], number: u64)
+    requires { ⌜ LineOf (now s) (openLine number) ⌝ }
+{
+    let mut room = [0u8; 128];
+    let n = lines::open_line(number, &mut room);
+    write_line(s, &room[..n]);
+}
+
+// 1 if a message is accepted.
+fn counted(told: Report) -> u64
+    ensures { λ r. ⌜ r ≡ accepts told ⌝ }
+    ensures { λ r. ⌜ r ≤ 1 ⌝ }
+{
+    match told {
+        Report::Accepted(_) => 1,
+        Report::Refused(_) => 0,
+    }
 }
 
 // A line for each message, and how many were accepted.
-fn put_messages(s: &[u8], rows: &mut [u16], starts: &mut [u32], totals: &mut [u64]) -> u64 {
+fn put_messages(s: &[u8], rows: &mut [u16], starts: &mut [u32], totals: &mut [u64]) -> u64
+    requires { ⌜ Opened (now s) ⌝ }
+    requires { ⌜ length (now rows) ≡ 2000 ⌝ }
+    requires { ⌜ length (now starts) ≡ 2000 ⌝ }
+    requires { ⌜ length (now totals) ≡ 400 ⌝ }
+    ensures { λ r. ⌜ AcceptedOf (now (s .entry)) r ⌝ }
+{
     let mut at: usize = 0;
     let mut place: u64 = 0;
     let mut accepted: u64 = 0;
-    while at < s.len() {
+    loop {
         let w = walk::walk(s, at, rows, starts, totals);
         match w {
-            Walked::Message(_, end, r) => {
+            Walked::Message(_, end, told) => {
                 place += 1;
-                accepted += put_message(place, r);
+                put_message(s, place, told);
+                accepted += counted(told);
                 at = end;
             }
             Walked::Nothing => {
@@ -85,10 +87,12 @@ fn put_messages(s: &[u8], rows: &mut [u16], starts: &mut [u32], totals: &mut [u6
             }
         }
     }
-    accepted
 }
 
-fn report_on(s: &[u8]) {
+// The lines of an interchange that is short enough.
+fn report_on(s: &[u8])
+    requires { ⌜ length (now s) ≤ 32768 ⌝ }
+{
     let o = interchange::open(s);
     match o {
         Opening::Opens(_, _) => {
@@ -99,9 +103,7 @@ fn report_on(s: &[u8]) {
             put_end(s, accepted);
         }
         Opening::Refused(r) => {
-            put(b"OPEN NO");
-            put_number(r.number as u64);
-            put(b"\n");
+            put_open(s, r.number as u64);
         }
     }
 }
@@ -110,7 +112,7 @@ fn main() {
     let mut buffer = [0u8; 32769];
     let n = io::read_full(STDIN_FILENO, &mut buffer);
     if MOST < n {
-        put(b"OPEN NO 1\n");
+        put_open(&buffer[..n], 1);
         return;
     }
     report_on(&buffer[..n]);

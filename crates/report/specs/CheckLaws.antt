@@ -3,15 +3,19 @@ use Prim.Native.Nat.{ℕ, zero, suc, _+_, _%_, _≤_, _<_}
 use native.Mathlib.Nat.{mod-eq-of-lt}
 use native.Mathlib.Omega.{arith}
 use native.Mathlib.Decide.{decLt}
-use mathlib.Core.Path.{_≡_, refl, sym, ap, _∙_, subst}
-use mathlib.Core.List.{List, [], _∷_}
+use mathlib.Core.Path.{_≡_, refl, sym, ap, ap₂, _∙_, subst}
+use mathlib.Core.List.{List, [], _∷_, map}
 use mathlib.Core.Bool.{Bool, true, false, _&&_}
-use lib.ListN.{length}
+use lib.ListN.{length, getD, length-map}
 use lib.Dec.{eqb, leb, ltb}
 use borrow.Author.Tests.{ne-eqb, le-leb, lt-leb, le-ltb, lt-ltb, leb-true}
 use Rattle.service.specs.declared.Service.{Service}
+use Rattle.service.specs.Service.{Fits, fitting}
+use Rattle.service.specs.FitLaws.{fits-if}
 use Rattle.segments.specs.Classes.{if}
 use Rattle.segments.specs.SegmentList.{segmentsFrom}
+use Rattle.segments.specs.StartsLaws.{starts-within}
+use Rattle.parts.specs.Parts.{strangeIn}
 use Rattle.faults.specs.declared.First.{First}
 use Rattle.faults.specs.declared.First.the-variants as first
 use Rattle.faults.specs.declared.Fault.{Fault}
@@ -19,26 +23,28 @@ use Rattle.faults.specs.declared.Fault.the-variants as fault
 use Rattle.faults.specs.Firsts.{lesser, placeUnless, numberFirst}
 use Rattle.tally.specs.declared.Tally.{Tally}
 use Rattle.tally.specs.Tallied.{tallyOf}
-use Rattle.tally.specs.Places.{passed, startAfter}
+use Rattle.tally.specs.Places.{passed}
 use Rattle.interchange.specs.declared.Refusal.{Refusal}
+use Rattle.interchange.specs.Messages.{endsClosed}
 use Rattle.interchange.specs.Envelope.{refusal}
-use Rattle.listing.specs.Listing.{Listed, Totalled}
+use Rattle.lent.specs.Lists.{Lists, lists}
+use Rattle.listing.specs.Listing.{rowsAfter, startsAfter, totalsAfter}
 use Rattle.chart.specs.Chart.{Reading}
-use Rattle.chart.specs.Table.{chart}
-use Rattle.chart.specs.Table as table
-use Rattle.chart.specs.Next.{rowsOf}
+use Rattle.chart.specs.Codes as codes
 use Rattle.chart.specs.Answer.{StuckAt}
 use Rattle.chart.proofs.Answers.{unt-stuck}
-use Rattle.chart.specs.Tags.{tagsOf, startAt}
+use Rattle.chart.specs.Tags.{tagsOf}
 use Rattle.chart.specs.TagsLaws.{tags-few}
+use Rattle.chart.specs.Paymul.{PAYMUL, chart, rowsOf}
+use Rattle.chart.proofs.Paymul.{paymul-sound}
 use Rattle.message.specs.Run.{firstOf}
 use Rattle.message.specs.Segs.{segsOf, LIN, SEQ, is}
-use Rattle.message.specs.Rules.{count, paymul}
+use Rattle.message.specs.Rules.{count, paymul, paymulOf}
 use Rattle.message.specs.Faults.{told, tellAll, leastOf}
 use Rattle.report.specs.declared.Counts.{Counts}
 use Rattle.report.specs.declared.Report.{Report}
 use Rattle.report.specs.declared.Report.the-variants.{Accepted, Refused}
-use Rattle.report.specs.Reported.{Room, toldUnless, rule10, closed, headed, lines, fits, early, Lowest, badIn, orElse, offsetOf, Reported, accepted, refused}
+use Rattle.report.specs.Reported.{Raw, rawOf, bareOf, Room, toldUnless, rule10, headed, lines, fits, early, Lowest, offsetOf, Reported, accepted, refused, roomOf, filled}
 use Rattle.report.specs.EarlyLaws.{early-least, early-lowest, early-none, numbers-told, late-numbers}
 use Rattle.report.specs.LateLaws.{late-none, late-lowest, misfit-lowest}
 use Rattle.report.specs.LeastLaws.{least-told}
@@ -46,21 +52,23 @@ use Rattle.report.specs.SmallLaws.{late-within}
 use Rattle.report.specs.CountLaws.{times, lin-tags, seq-tags}
 use Rattle.report.specs.FillLaws.{rows-are, placed-length, rows-over, starts-over, totals-over}
 use Rattle.report.specs.ClosedLaws.{Closes, closes}
-use Rattle.report.specs.UntLaws.{closedAt, closed-is}
-use Rattle.report.specs.PieceLaws.{Pieced, pieced, start-is, number-is}
+use Rattle.report.specs.UntLaws.{endsWith, closed-is}
+use Rattle.report.specs.PieceLaws.{lines-tags, pieces-tags, number-is}
+use Rattle.report.specs.ChecksLaws.{headed-is}
 use Rattle.report.specs.TenLaws.{Ten, ten-none, ten-at}
-use Rattle.report.specs.Checks.{earlyFault, Late, placed, stuck, byteRefusal, startBy, refusalAt}
+use Rattle.report.specs.Checks.{headedAt, outright, earlyFault, Late, placed, stuck, byteRefusal, startBy, refusalAt}
 
--- ---- 1 and 10 to 14 as a chain of tests
+-- ---- 1, 2 and 10 to 14 as a chain of tests
 first-told : (b : Bool) (s : ℕ) → firstOf (toldUnless b s) ≡ placeUnless b s
 unfolding firstOf lesser
 first-told true s = refl
 first-told false s = refl
 
-abbrev chain : Bool → First → Bool → Bool → Bool → Bool → Fault
-chain a b c d e f =
+abbrev chain : Bool → Bool → First → Bool → Bool → Bool → Bool → Fault
+chain a g b c d e f =
     numberFirst 1 (placeUnless a 0)
-    (numberFirst 10 b (numberFirst 11 (placeUnless c 1) (numberFirst 12 (placeUnless d 1) (numberFirst 13 (placeUnless e 10000) (numberFirst 14 (placeUnless f 0) fault.None)))))
+    (numberFirst 2 (placeUnless g 0)
+    (numberFirst 10 b (numberFirst 11 (placeUnless c 1) (numberFirst 12 (placeUnless d 1) (numberFirst 13 (placeUnless e 10000) (numberFirst 14 (placeUnless f 0) fault.None))))))
 
 -- the number and segment of a fault under 11 to 13
 record Plain (n k : ℕ) : Type 0 where
@@ -80,39 +88,39 @@ not-none : (n k : ℕ) → fault.At n k ≡ fault.None → ⊥
 not-none n k e = let z : _≡_ {A = ℕ} 0 1 = cc in omega arith
 
 module _ (n len : ℕ) (f : Bool) where
-  early-at : (c h : Bool) → (c ≡ true → len ≡ n) → (a k : ℕ) → earlyFault c h n ≡ fault.At a k → (chain true first.None c h (leb len 9999) f ≡ fault.At a k) × Plain a k
+  early-at : (c h : Bool) → (c ≡ true → len ≡ n) → (a k : ℕ) → earlyFault c h n ≡ fault.At a k → (chain true true first.None c h (leb len 9999) f ≡ fault.At a k) × Plain a k
   early-at false h g a k e = (e, plain-by 11 1 a k e (record { other = refl; some = omega arith; few = omega arith }))
   early-at true false g a k e = (e, plain-by 12 1 a k e (record { other = refl; some = omega arith; few = omega arith }))
   early-at true true g a k e = go (decLt 9999 n)
     where
-      go : Dec (9999 < n) → (chain true first.None true true (leb len 9999) f ≡ fault.At a k) × Plain a k
+      go : Dec (9999 < n) → (chain true true first.None true true (leb len 9999) f ≡ fault.At a k) × Plain a k
       go (yes h) =
           let q = g refl in
           let l : 9999 < len = omega arith in
           let w : fault.At 13 10000 ≡ fault.At a k = sym (ap (λ (b : Bool). if b (fault.At 13 10000) fault.None) (lt-ltb 9999 n h)) ∙ e in
-          (ap (λ (b : Bool). chain true first.None true true b f) (lt-leb len 9999 l) ∙ w, plain-by 13 10000 a k w (record { other = refl; some = omega arith; few = omega arith }))
+          (ap (λ (b : Bool). chain true true first.None true true b f) (lt-leb len 9999 l) ∙ w, plain-by 13 10000 a k w (record { other = refl; some = omega arith; few = omega arith }))
       go (no h) =
           let l : n ≤ 9999 = omega arith in
           absurd (not-none a k (sym e ∙ ap (λ (b : Bool). if b (fault.At 13 10000) fault.None) (le-ltb 9999 n l)))
 
-  early-pass : (c h : Bool) → (c ≡ true → len ≡ n) → earlyFault c h n ≡ fault.None → (c ≡ true) × (chain true first.None c h (leb len 9999) f ≡ numberFirst 14 (placeUnless f 0) fault.None)
+  early-pass : (c h : Bool) → (c ≡ true → len ≡ n) → earlyFault c h n ≡ fault.None → (c ≡ true) × (chain true true first.None c h (leb len 9999) f ≡ numberFirst 14 (placeUnless f 0) fault.None)
   early-pass false h g e = absurd (not-none 11 1 e)
   early-pass true false g e = absurd (not-none 12 1 e)
   early-pass true true g e = go (decLt 9999 n)
     where
-      go : Dec (9999 < n) → (true ≡ true) × (chain true first.None true true (leb len 9999) f ≡ numberFirst 14 (placeUnless f 0) fault.None)
+      go : Dec (9999 < n) → (true ≡ true) × (chain true true first.None true true (leb len 9999) f ≡ numberFirst 14 (placeUnless f 0) fault.None)
       go (yes h) = absurd (not-none 13 10000 (sym (ap (λ (b : Bool). if b (fault.At 13 10000) fault.None) (lt-ltb 9999 n h)) ∙ e))
       go (no h) =
           let q = g refl in
           let l : len ≤ 9999 = omega arith in
-          (refl, ap (λ (b : Bool). chain true first.None true true b f) (le-leb len 9999 l))
+          (refl, ap (λ (b : Bool). chain true true first.None true true b f) (le-leb len 9999 l))
 
 -- ---- what the tally has
 abbrev pub tallied : Service → List ℕ → Tally
 tallied v m = tallyOf v m (segmentsFrom v m 0)
 
-abbrev pub roomOf : List ℕ → List ℕ → List ℕ → Room
-roomOf r s t = record { rows = length r; starts = length s; totals = length t }
+abbrev raws : Service → List ℕ → List Raw
+raws v m = map (rawOf v m) (segmentsFrom v m 0)
 
 all-true : (a b c : Bool) → a && b && c ≡ true → (a ≡ true) × (b ≡ true) × (c ≡ true)
 all-true true true true e = (refl, refl, refl)
@@ -121,82 +129,118 @@ all-true true false c e = absurd (let z : _≡_ {A = ℕ} 0 1 = cc in omega arit
 all-true false b c e = absurd (let z : _≡_ {A = ℕ} 0 1 = cc in omega arith)
 
 module _ (v : Service) (m : List ℕ) where
-  early-chain : (x : Room) → leastOf (tellAll (early v m (segmentsFrom v m 0) x))
-      ≡ chain (leb (length m) 1048576) (firstOf (rule10 m 1 (segmentsFrom v m 0))) (closed v m (segmentsFrom v m 0)) (headed v m) (leb (length (segmentsFrom v m 0)) 9999) (fits v m (segmentsFrom v m 0) x)
+  raws-length : length (raws v m) ≡ length (segmentsFrom v m 0)
+  raws-length = length-map (segmentsFrom v m 0) (rawOf v m)
+
+  early-chain : (x : Room) → leastOf (tellAll (early (bareOf v m) x))
+      ≡ chain (leb (length m) 1048576) (fitting v) (firstOf (rule10 1 (raws v m))) (endsClosed v m) (headed (raws v m)) (leb (length (raws v m)) 9999) (fits (raws v m) x)
   unfolding early
   early-chain x =
-      early-least v m (segmentsFrom v m 0) x
-      ∙ rw (first-told (leb (length m) 1048576) 0, first-told (closed v m (segmentsFrom v m 0)) 1, first-told (headed v m) 1, first-told (leb (length (segmentsFrom v m 0)) 9999) 10000, first-told (fits v m (segmentsFrom v m 0) x) 0)
+      early-least (bareOf v m) x
+      ∙ rw (first-told (leb (length m) 1048576) 0, first-told (fitting v) 0, first-told (endsClosed v m) 1, first-told (headed (raws v m)) 1, first-told (leb (length (raws v m)) 9999) 10000, first-told (fits (raws v m) x) 0)
 
-  module _ (r s t : List ℕ) where
-    refuse-by : (n k o : ℕ) (f : Refusal) → f .number ≡ n → f .segment ≡ k → f .offset ≡ o → Lowest v m (roomOf r s t) n k → o ≡ offsetOf v m n k → Reported v m r r s s t t (Refused f)
+  module _ (x : Lists) where
+    refuse-by : (n k o : ℕ) (f : Refusal) → f .number ≡ n → f .segment ≡ k → f .offset ≡ o → Lowest v m (roomOf x) n k → o ≡ offsetOf v m n k → Reported v m x x (Refused f)
     refuse-by n k o f a b c l q =
         let e : f ≡ record { number = n; segment = k; offset = o } = λ i. record { number = a i; segment = b i; offset = c i } in
-        subst (λ (g : Refusal). Reported v m r r s s t t (Refused g)) (sym e) (refused (record { number = n; segment = k; offset = o }) l q refl refl refl)
+        subst (λ (g : Refusal). Reported v m x x (Refused g)) (sym e) (refused (record { number = n; segment = k; offset = o }) l q refl)
 
     -- 1
-    pub check-long : 1048576 < length m → (f : Refusal) → f ≡ refusal 1 → Reported v m r r s s t t (Refused f)
+    pub check-long : 1048576 < length m → (f : Refusal) → f ≡ refusal 1 → Reported v m x x (Refused f)
     unfolding offsetOf
     check-long h f e =
         refuse-by 1 0 0 f (ap (λ (g : Refusal). g .number) e) (ap (λ (g : Refusal). g .segment) e) (ap (λ (g : Refusal). g .offset) e)
-        (early-lowest v m (roomOf r s t) 1 0 (early-chain (roomOf r s t) ∙ rw (lt-leb (length m) 1048576 h))) refl
+        (early-lowest v m (roomOf x) 1 0 (early-chain (roomOf x) ∙ rw (lt-leb (length m) 1048576 h))) refl
 
-    module _ (small : length m ≤ 1048576) where
+    -- 2
+    check-unfit : length m ≤ 1048576 → fitting v ≡ false → (f : Refusal) → f ≡ refusal 2 → Reported v m x x (Refused f)
+    unfolding offsetOf
+    check-unfit h g f e =
+        refuse-by 2 0 0 f (ap (λ (g : Refusal). g .number) e) (ap (λ (g : Refusal). g .segment) e) (ap (λ (g : Refusal). g .offset) e)
+        (early-lowest v m (roomOf x) 2 0 (early-chain (roomOf x) ∙ rw (le-leb (length m) 1048576 h, g))) refl
+
+    -- 1 and 2
+    pub check-outright : (n : ℕ) → n ≡ outright (leb (length m) 1048576) (fitting v) → (n ≡ 0 → ⊥) → (f : Refusal) → f ≡ refusal n → Reported v m x x (Refused f)
+    check-outright n d z f e = go (decLt 1048576 (length m)) (fitting v) refl
+      where
+        go : Dec (1048576 < length m) → (b : Bool) → fitting v ≡ b → Reported v m x x (Refused f)
+        go (yes h) b q = check-long h f (e ∙ ap refusal (d ∙ rw (lt-leb (length m) 1048576 h)))
+        go (no h) true q = let l : length m ≤ 1048576 = omega arith in absurd (z (d ∙ rw (le-leb (length m) 1048576 l, q)))
+        go (no h) false q = let l : length m ≤ 1048576 = omega arith in check-unfit l q f (e ∙ ap refusal (d ∙ rw (le-leb (length m) 1048576 l, q)))
+
+    module _ (j : ℕ) (u : j ≡ outright (leb (length m) 1048576) (fitting v)) (y : j ≡ 0) where
+      ready : (length m ≤ 1048576) × (fitting v ≡ true)
+      ready = go (leb (length m) 1048576) (fitting v) refl refl (sym u ∙ y)
+        where
+          go : (a b : Bool) → leb (length m) 1048576 ≡ a → fitting v ≡ b → outright a b ≡ 0 → (length m ≤ 1048576) × (fitting v ≡ true)
+          go true true p q e = (leb-true (length m) 1048576 p, q)
+          go true false p q e = absurd (omega arith)
+          go false b p q e = absurd (omega arith)
+
+      small : length m ≤ 1048576
+      small = ready .0
+
+      fit : Fits v
+      fit = fits-if v (ready .1)
+
       start-high : (k : ℕ) → startBy v m k ≤ length m
       start-high zero = omega arith
-      start-high (suc k) = let e = start-is v m k in let h = pieced v m .high k in omega arith
+      start-high (suc k) = starts-within v m 0 (omega arith) k .1
 
       start-offset : (n k : ℕ) → eqb n 10 ≡ false → 1 ≤ k → startBy v m k ≡ offsetOf v m n k
       unfolding offsetOf
       start-offset n zero e h = absurd (omega arith)
-      start-offset n (suc k) e h = rw e (start-is v m k)
+      start-offset n (suc k) e h = rw e refl
 
       -- the refusal that `refusal_at` gives
-      refuse-at : (n k : ℕ) → eqb n 10 ≡ false → 1 ≤ k → k ≤ 1048576 → Lowest v m (roomOf r s t) n k → (f : Refusal) → f ≡ refusalAt v m n k → Reported v m r r s s t t (Refused f)
+      refuse-at : (n k : ℕ) → eqb n 10 ≡ false → 1 ≤ k → k ≤ 1048576 → Lowest v m (roomOf x) n k → (f : Refusal) → f ≡ refusalAt v m n k → Reported v m x x (Refused f)
       refuse-at n k o lo hi l f e =
+          let most = small in
           let h = start-high k in
           refuse-by n k (startBy v m k) f (ap (λ (g : Refusal). g .number) e) (ap (λ (g : Refusal). g .segment) e ∙ mod-eq-of-lt (omega arith)) (ap (λ (g : Refusal). g .offset) e ∙ mod-eq-of-lt (omega arith)) l (start-offset n k o lo)
 
       -- 10
-      pub check-byte : (z : Tally) → z ≡ tallied v m → (p : ℕ) → z .bad ≡ first.At p → (f : Refusal) → f ≡ byteRefusal v m p → Reported v m r r s s t t (Refused f)
+      pub check-byte : (z : Tally) → z ≡ tallied v m → (p : ℕ) → z .bad ≡ first.At p → (f : Refusal) → f ≡ byteRefusal v m p → Reported v m x x (Refused f)
       unfolding offsetOf
       check-byte z c p q f e =
+          let most = small in
           let b : tallied v m .bad ≡ first.At p = sym (ap (λ (y : Tally). y .bad) c) ∙ q in
-          let w = ten-at v m p b in
+          let w = ten-at v fit m p b in
           let g = w .few in
-          let d = pieced v m .count in
+          let d = pieces-tags v m in
           let i = tags-few v m 0 in
           let u = w .low in
-          let x : passed (length m) p (segmentsFrom v m 0) % 4294967295 ≡ passed (length m) p (segmentsFrom v m 0) = mod-eq-of-lt (omega arith) in
+          let y : passed (length m) p (segmentsFrom v m 0) % 4294967295 ≡ passed (length m) p (segmentsFrom v m 0) = mod-eq-of-lt (omega arith) in
           refuse-by 10 (suc (passed (length m) p (segmentsFrom v m 0))) p f (ap (λ (g : Refusal). g .number) e)
-          (ap (λ (g : Refusal). g .segment) e ∙ ap (λ (j : ℕ). (j + 1) % 4294967296) x ∙ mod-eq-of-lt (omega arith) ∙ omega arith)
+          (ap (λ (g : Refusal). g .segment) e ∙ ap (λ (j : ℕ). (j + 1) % 4294967296) y ∙ mod-eq-of-lt (omega arith) ∙ omega arith)
           (ap (λ (g : Refusal). g .offset) e ∙ mod-eq-of-lt (omega arith))
-          (early-lowest v m (roomOf r s t) 10 (suc (passed (length m) p (segmentsFrom v m 0))) (early-chain (roomOf r s t) ∙ rw (le-leb (length m) 1048576 small, w .told) (ap (fault.At 10) (omega arith))))
-          (sym (ap (λ (y : First). orElse y 0) (w .byte)))
+          (early-lowest v m (roomOf x) 10 (suc (passed (length m) p (segmentsFrom v m 0))) (early-chain (roomOf x) ∙ rw (le-leb (length m) 1048576 small, ready .1, w .told) (ap (fault.At 10) (omega arith))))
+          (sym (w .byte))
 
       module _ (z : Tally) (c : z ≡ tallied v m) (clean : z .bad ≡ first.None) where
-        quiet : leastOf (tellAll (early v m (segmentsFrom v m 0) (roomOf r s t)))
-            ≡ chain true first.None (closed v m (segmentsFrom v m 0)) (headed v m) (leb (length (segmentsFrom v m 0)) 9999) (fits v m (segmentsFrom v m 0) (roomOf r s t))
-        quiet = early-chain (roomOf r s t) ∙ rw (le-leb (length m) 1048576 small, ten-none v m (sym (ap (λ (y : Tally). y .bad) c) ∙ clean))
+        quiet : leastOf (tellAll (early (bareOf v m) (roomOf x)))
+            ≡ chain true true first.None (endsClosed v m) (headed (raws v m)) (leb (length (raws v m)) 9999) (fits (raws v m) (roomOf x))
+        quiet = early-chain (roomOf x) ∙ rw (le-leb (length m) 1048576 small, ready .1, ten-none v fit m (sym (ap (λ (y : Tally). y .bad) c) ∙ clean))
 
-        segments-as : closed v m (segmentsFrom v m 0) ≡ true → length (segmentsFrom v m 0) ≡ z .segments
-        segments-as h = pieced v m .count ∙ sym (closes v m h .segments) ∙ sym (ap (λ (y : Tally). y .segments) c)
+        segments-as : endsClosed v m ≡ true → length (raws v m) ≡ z .segments
+        segments-as h = raws-length ∙ pieces-tags v m ∙ sym (closes v m h .segments) ∙ sym (ap (λ (y : Tally). y .segments) c)
 
-        module _ (e : Fault) (d : e ≡ earlyFault (closedAt v m (z .unt)) (headed v m) (z .segments)) where
-          early-as : e ≡ earlyFault (closed v m (segmentsFrom v m 0)) (headed v m) (z .segments)
-          early-as = d ∙ ap (λ (b : Bool). earlyFault b (headed v m) (z .segments)) (ap (λ (y : Tally). closedAt v m (y .unt)) c ∙ closed-is v m)
+        module _ (e : Fault) (i : e ≡ earlyFault (endsWith v m (z .unt)) (headedAt v m) (z .segments)) where
+          early-as : e ≡ earlyFault (endsClosed v m) (headed (raws v m)) (z .segments)
+          early-as = i ∙ ap₂ (λ (a b : Bool). earlyFault a b (z .segments)) (ap (λ (y : Tally). endsWith v m (y .unt)) c ∙ closed-is v m) (sym (headed-is v m))
 
           -- 11 to 13
-          pub check-early : (n k : ℕ) → e ≡ fault.At n k → (f : Refusal) → f ≡ refusalAt v m n k → Reported v m r r s s t t (Refused f)
+          pub check-early : (n k : ℕ) → e ≡ fault.At n k → (f : Refusal) → f ≡ refusalAt v m n k → Reported v m x x (Refused f)
           check-early n k q f g =
-              let w = early-at (z .segments) (length (segmentsFrom v m 0)) (fits v m (segmentsFrom v m 0) (roomOf r s t)) (closed v m (segmentsFrom v m 0)) (headed v m) segments-as n k (sym early-as ∙ q) in
+              let most = small in
+              let w = early-at (z .segments) (length (raws v m)) (fits (raws v m) (roomOf x)) (endsClosed v m) (headed (raws v m)) segments-as n k (sym early-as ∙ q) in
               let hi = w .1 .few in
-              refuse-at n k (w .1 .other) (w .1 .some) (omega arith) (early-lowest v m (roomOf r s t) n k (quiet ∙ w .0)) f g
+              refuse-at n k (w .1 .other) (w .1 .some) (omega arith) (early-lowest v m (roomOf x) n k (quiet ∙ w .0)) f g
 
           module _ (q : e ≡ fault.None) where
-            passes : (closed v m (segmentsFrom v m 0) ≡ true)
-                × (chain true first.None (closed v m (segmentsFrom v m 0)) (headed v m) (leb (length (segmentsFrom v m 0)) 9999) (fits v m (segmentsFrom v m 0) (roomOf r s t)) ≡ numberFirst 14 (placeUnless (fits v m (segmentsFrom v m 0) (roomOf r s t)) 0) fault.None)
-            passes = early-pass (z .segments) (length (segmentsFrom v m 0)) (fits v m (segmentsFrom v m 0) (roomOf r s t)) (closed v m (segmentsFrom v m 0)) (headed v m) segments-as (sym early-as ∙ q)
+            passes : (endsClosed v m ≡ true)
+                × (chain true true first.None (endsClosed v m) (headed (raws v m)) (leb (length (raws v m)) 9999) (fits (raws v m) (roomOf x)) ≡ numberFirst 14 (placeUnless (fits (raws v m) (roomOf x)) 0) fault.None)
+            passes = early-pass (z .segments) (length (raws v m)) (fits (raws v m) (roomOf x)) (endsClosed v m) (headed (raws v m)) segments-as (sym early-as ∙ q)
 
             shut : Closes v m 0
             shut = closes v m (passes .0)
@@ -204,54 +248,56 @@ module _ (v : Service) (m : List ℕ) where
             segments-are : z .segments ≡ length (tagsOf v m)
             segments-are = ap (λ (y : Tally). y .segments) c ∙ shut .segments
 
-            orders-are : z .orders ≡ times table.LIN (tagsOf v m)
+            orders-are : z .orders ≡ times codes.LIN (tagsOf v m)
             orders-are = ap (λ (y : Tally). y .orders) c ∙ shut .orders
 
-            payments-are : z .payments ≡ times table.SEQ (tagsOf v m)
+            payments-are : z .payments ≡ times codes.SEQ (tagsOf v m)
             payments-are = ap (λ (y : Tally). y .payments) c ∙ shut .payments
 
-            fits-as : fits v m (segmentsFrom v m 0) (roomOf r s t) ≡ leb (z .segments) (length r) && leb (z .segments) (length s) && leb (z .orders) (length t)
+            fits-as : fits (raws v m) (roomOf x) ≡ leb (z .segments) (length (x .rows)) && leb (z .segments) (length (x .starts)) && leb (z .orders) (length (x .totals))
             unfolding fits
-            fits-as = rw (segments-as (passes .0), pieced v m .lins, orders-are)
+            fits-as = rw (segments-as (passes .0), lines-tags v m, orders-are)
 
-            module _ (b : Bool) (w : b ≡ leb (z .segments) (length r) && leb (z .segments) (length s) && leb (z .orders) (length t)) where
-              early-ends : leastOf (tellAll (early v m (segmentsFrom v m 0) (roomOf r s t))) ≡ numberFirst 14 (placeUnless b 0) fault.None
-              early-ends = quiet ∙ passes .1 ∙ ap (λ (x : Bool). numberFirst 14 (placeUnless x 0) fault.None) (fits-as ∙ sym w)
+            module _ (b : Bool) (w : b ≡ leb (z .segments) (length (x .rows)) && leb (z .segments) (length (x .starts)) && leb (z .orders) (length (x .totals))) where
+              early-ends : leastOf (tellAll (early (bareOf v m) (roomOf x))) ≡ numberFirst 14 (placeUnless b 0) fault.None
+              early-ends = quiet ∙ passes .1 ∙ ap (λ (y : Bool). numberFirst 14 (placeUnless y 0) fault.None) (fits-as ∙ sym w)
 
               -- 14
-              pub check-room : b ≡ false → (f : Refusal) → f ≡ refusal 14 → Reported v m r r s s t t (Refused f)
+              pub check-room : b ≡ false → (f : Refusal) → f ≡ refusal 14 → Reported v m x x (Refused f)
               unfolding offsetOf
               check-room g f h =
                   refuse-by 14 0 0 f (ap (λ (g : Refusal). g .number) h) (ap (λ (g : Refusal). g .segment) h) (ap (λ (g : Refusal). g .offset) h)
-                  (early-lowest v m (roomOf r s t) 14 0 (early-ends ∙ rw g)) refl
+                  (early-lowest v m (roomOf x) 14 0 (early-ends ∙ rw g)) refl
 
               module _ (g : b ≡ true) where
-                none-early : tellAll (early v m (segmentsFrom v m 0) (roomOf r s t)) ≡ []
-                none-early = early-none v m (roomOf r s t) (early-ends ∙ rw g)
+                none-early : tellAll (early (bareOf v m) (roomOf x)) ≡ []
+                none-early = early-none v m (roomOf x) (early-ends ∙ rw g)
 
-                room : (leb (z .segments) (length r) ≡ true) × (leb (z .segments) (length s) ≡ true) × (leb (z .orders) (length t) ≡ true)
-                room = all-true (leb (z .segments) (length r)) (leb (z .segments) (length s)) (leb (z .orders) (length t)) (sym w ∙ g)
+                room : (leb (z .segments) (length (x .rows)) ≡ true) × (leb (z .segments) (length (x .starts)) ≡ true) × (leb (z .orders) (length (x .totals)) ≡ true)
+                room = all-true (leb (z .segments) (length (x .rows))) (leb (z .segments) (length (x .starts))) (leb (z .orders) (length (x .totals))) (sym w ∙ g)
 
                 module _ (l : Fault) where
                   -- 17 to 29
                   late-placed : Reading chart (tagsOf v m) (rowsOf (tagsOf v m)) → l ≡ leastOf (tellAll (paymul (segsOf v m (rowsOf (tagsOf v m)))))
-                      → (n k : ℕ) → l ≡ fault.At n k → (f : Refusal) → f ≡ refusalAt v m n k → Reported v m r r s s t t (Refused f)
+                      → (n k : ℕ) → l ≡ fault.At n k → (f : Refusal) → f ≡ refusalAt v m n k → Reported v m x x (Refused f)
                   late-placed rd h n k p f y =
+                      let most = small in
                       let u = sym h ∙ p in
                       let i = least-told (tellAll (paymul (segsOf v m (rowsOf (tagsOf v m))))) n k u in
                       let lo = numbers-told 17 29 _ (told n k) (late-numbers (segsOf v m (rowsOf (tagsOf v m)))) i .0 in
-                      let x = late-within v m (rowsOf (tagsOf v m)) n k i in
-                      let hi = x .1 in
+                      let within = late-within v m (rowsOf (tagsOf v m)) n k i in
+                      let hi = within .1 in
                       let a = rows-are v m in
                       let few = tags-few v m 0 in
-                      refuse-at n k (ne-eqb n 10 (λ (j : n ≡ 10). omega arith)) (x .0) (omega arith)
-                      (late-lowest v m (roomOf r s t) (rowsOf (tagsOf v m)) rd none-early n k u) f y
+                      refuse-at n k (ne-eqb n 10 (λ (j : n ≡ 10). omega arith)) (within .0) (omega arith)
+                      (late-lowest v m (roomOf x) (rowsOf (tagsOf v m)) rd none-early n k u) f y
 
                   -- 16
-                  late-stuck : (p : ℕ) → StuckAt v m p → l ≡ fault.At 16 (passed (length m) p (segmentsFrom v m 0) % 4294967295 + 1)
-                      → (n k : ℕ) → l ≡ fault.At n k → (f : Refusal) → f ≡ refusalAt v m n k → Reported v m r r s s t t (Refused f)
-                  late-stuck p a h n k y f x =
-                      let u = unt-stuck v m p a (shut .before) (shut .last) in
+                  late-stuck : (p : ℕ) → StuckAt PAYMUL v m p → l ≡ fault.At 16 (passed (length m) p (segmentsFrom v m 0) % 4294967295 + 1)
+                      → (n k : ℕ) → l ≡ fault.At n k → (f : Refusal) → f ≡ refusalAt v m n k → Reported v m x x (Refused f)
+                  late-stuck p a h n k y f e =
+                      let most = small in
+                      let u = unt-stuck PAYMUL paymul-sound v m p a (shut .before) (shut .last) in
                       let j = u .0 in
                       let fm = u .2 in
                       let lt = fm .within in
@@ -262,27 +308,39 @@ module _ (v : Service) (m : List ℕ) where
                       let n16 : 16 ≡ n = cc in
                       let kj : j + 1 ≡ k = cc in
                       refuse-at n k (subst (λ (i : ℕ). eqb i 10 ≡ false) n16 refl) (omega arith) (omega arith)
-                      (subst (λ (i : ℕ). Lowest v m (roomOf r s t) i k) n16 (subst (λ (i : ℕ). Lowest v m (roomOf r s t) 16 i) kj (misfit-lowest v m (roomOf r s t) j fm none-early))) f x
+                      (subst (λ (i : ℕ). Lowest v m (roomOf x) i k) n16 (subst (λ (i : ℕ). Lowest v m (roomOf x) 16 i) kj (misfit-lowest v m (roomOf x) j fm none-early))) f e
 
-                  pub check-late : Late v m (z .segments) (z .orders) l → (n k : ℕ) → l ≡ fault.At n k → (f : Refusal) → f ≡ refusalAt v m n k → Reported v m r r s s t t (Refused f)
-                  check-late (placed rd h) = late-placed rd (h (segments-are ∙ sym (placed-length v m)) (orders-are ∙ sym (lin-tags v m (rd .placement))))
+                  -- the counts that `judge` is told are the message's
+                  counted : Reading chart (tagsOf v m) (rowsOf (tagsOf v m)) → l ≡ leastOf (tellAll (paymulOf (z .segments) (z .orders) (segsOf v m (rowsOf (tagsOf v m)))))
+                      → l ≡ leastOf (tellAll (paymul (segsOf v m (rowsOf (tagsOf v m)))))
+                  counted rd h =
+                      h
+                      ∙ ap (λ (k : ℕ). leastOf (tellAll (paymulOf k (z .orders) (segsOf v m (rowsOf (tagsOf v m)))))) (segments-are ∙ sym (placed-length v m))
+                      ∙ ap (λ (n : ℕ). leastOf (tellAll (paymulOf (length (segsOf v m (rowsOf (tagsOf v m)))) n (segsOf v m (rowsOf (tagsOf v m)))))) (orders-are ∙ sym (lin-tags v m (rd .placement)))
+
+                  pub check-late : Late v m (z .segments) (z .orders) l → (n k : ℕ) → l ≡ fault.At n k → (f : Refusal) → f ≡ refusalAt v m n k → Reported v m x x (Refused f)
+                  check-late (placed rd h) = late-placed rd (counted rd h)
                   check-late (stuck p a h) = late-stuck p a h
 
                   -- accepted
-                  module _ (r1 s1 t1 : List ℕ) (done : Listed v m (z .segments) r r1 s s1) (full : Totalled v m (z .orders) t t1) where
-                    done-by : Late v m (z .segments) (z .orders) l → l ≡ fault.None → (n : Counts) → n ≡ record { segments = z .segments; orders = z .orders; payments = z .payments } → Reported v m r r1 s s1 t t1 (Accepted n)
-                    done-by (stuck p a h) y n k = absurd (not-none 16 _ (sym h ∙ y))
-                    done-by (placed rd h) y n k =
+                  module _ (r s t : List ℕ) (r-is : r ≡ rowsAfter PAYMUL v m (z .segments) (x .rows) (x .starts)) (s-is : s ≡ startsAfter v m (z .segments) (x .rows) (x .starts)) (t-is : t ≡ totalsAfter PAYMUL v m (z .orders) (x .totals)) where
+                    filled-by : Reading chart (tagsOf v m) (rowsOf (tagsOf v m)) → lists r s t ≡ filled v m (rowsOf (tagsOf v m)) x
+                    filled-by rd =
                         let o = orders-are ∙ sym (lin-tags v m (rd .placement)) in
-                        let x = h (segments-are ∙ sym (placed-length v m)) o in
                         let ro = leb-true _ _ (room .0) in
                         let so = leb-true _ _ (room .1) in
                         let to = leb-true _ _ (room .2) in
-                        accepted n (rowsOf (tagsOf v m)) rd (late-none v m (roomOf r s t) (rowsOf (tagsOf v m)) rd none-early (sym x ∙ y))
-                        (k ∙ rw (segments-are ∙ sym (placed-length v m), o, payments-are ∙ sym (seq-tags v m (rd .placement))))
-                        (rows-over v m (z .segments) r r1 s s1 done segments-are ro so)
-                        (starts-over v m (z .segments) r r1 s s1 done segments-are ro so small)
-                        (totals-over v m (z .orders) t t1 full (rd .placement) o to)
+                        let p′ = r-is ∙ rows-over v m (z .segments) (x .rows) (x .starts) segments-are ro so in
+                        let q′ = s-is ∙ starts-over v m (z .segments) (x .rows) (x .starts) segments-are ro so small in
+                        let u′ = t-is ∙ totals-over v m (z .orders) (x .totals) (rd .placement) o to in
+                        λ i. lists (p′ i) (q′ i) (u′ i)
 
-                    pub check-done : Late v m (z .segments) (z .orders) l → l ≡ fault.None → Reported v m r r1 s s1 t t1 (Accepted (record { segments = z .segments; orders = z .orders; payments = z .payments }))
+                    done-by : Late v m (z .segments) (z .orders) l → l ≡ fault.None → (n : Counts) → n ≡ record { segments = z .segments; orders = z .orders; payments = z .payments } → Reported v m x (lists r s t) (Accepted n)
+                    done-by (stuck p a h) y n k = absurd (not-none 16 _ (sym h ∙ y))
+                    done-by (placed rd h) y n k =
+                        let o = orders-are ∙ sym (lin-tags v m (rd .placement)) in
+                        accepted n (rowsOf (tagsOf v m)) rd (late-none v m (roomOf x) (rowsOf (tagsOf v m)) rd none-early (sym (counted rd h) ∙ y))
+                        (k ∙ rw (segments-are ∙ sym (placed-length v m), o, payments-are ∙ sym (seq-tags v m (rd .placement)))) (filled-by rd)
+
+                    pub check-done : Late v m (z .segments) (z .orders) l → l ≡ fault.None → Reported v m x (lists r s t) (Accepted (record { segments = z .segments; orders = z .orders; payments = z .payments }))
                     check-done a y = done-by a y (record { segments = z .segments; orders = z .orders; payments = z .payments }) refl

@@ -1,8 +1,7 @@
 -- A closed message: its segments are all finished, the last of them is the UNT, and the tally counts what the chart places. Assumes nothing.
-use Prim.Native.Nat.{ℕ, zero, suc, _+_, _-_, _≤_, _<_}
+use Prim.Native.Nat.{ℕ, zero, suc, _+_, _-_, _≤_}
 use native.Mathlib.Omega.{arith}
-use native.Mathlib.Decide.{decLt}
-use mathlib.Core.Path.{_≡_, refl, sym, ap, _∙_, subst}
+use mathlib.Core.Path.{_≡_, refl, sym, ap, _∙_}
 use mathlib.Core.List.{List, [], _∷_, _++_}
 use mathlib.Core.Bool.{Bool, true, false}
 use lib.ListN.{length}
@@ -16,14 +15,15 @@ use Rattle.segments.specs.Segments.{segmentAt}
 use Rattle.segments.specs.SegmentsLaws.{lies, segment-nothing}
 use Rattle.segments.specs.SegmentList.{Piece, finished, segmentsFrom}
 use Rattle.segments.specs.ListLaws.{list-nothing, list-finished, list-unfinished}
-use Rattle.values.specs.Values.{valueFrom, codeFrom, codeOf}
-use Rattle.chart.specs.Table.{UNT, LIN, SEQ}
-use Rattle.chart.specs.Tags.{tagOn, tagsFrom}
+use Rattle.chart.specs.Codes.{UNT, LIN, SEQ}
+use Rattle.chart.specs.Tags.{tagOn, tagsFrom, tagsOf}
 use Rattle.chart.specs.TagsLaws.{tags-past, tags-finished}
 use Rattle.tally.specs.declared.Tally.{Tally}
 use Rattle.tally.specs.Tallied.{oneIf, tallyOf}
-use Rattle.message.specs.Text.{text, letters, says}
-use Rattle.report.specs.Reported.{closed}
+use Rattle.values.specs.Text.{says}
+use Rattle.values.specs.Values.{valueFrom}
+use Rattle.interchange.specs.Messages.{tagAt, closedAt, endsClosed}
+use Rattle.interchange.specs.TagLaws.{unt-code}
 use Rattle.report.specs.CountLaws.{times}
 
 -- the segments from byte i on are those of a closed message
@@ -33,10 +33,6 @@ pub record Closes (v : Service) (m : List ℕ) (i : ℕ) : Type 0 where
   pub segments : tallyOf v m (segmentsFrom v m i) .segments ≡ length (tagsFrom v m i)
   pub orders : tallyOf v m (segmentsFrom v m i) .orders ≡ times LIN (tagsFrom v m i)
   pub payments : tallyOf v m (segmentsFrom v m i) .payments ≡ times SEQ (tagsFrom v m i)
-
-unt-letters : letters "UNT" ≡ UNT
-unfolding text codeFrom
-unt-letters = refl
 
 one-more : (b : Bool) (n : ℕ) → oneIf b + n ≡ if b (suc n) n
 one-more true n = omega arith
@@ -83,20 +79,25 @@ module _ (v : Service) (m : List ℕ) where
       nope : _≡_ {A = ℕ} 0 1
       nope = cc
 
-  by-kind : (f i : ℕ) → length m - i ≤ suc f → ((n : ℕ) → length m - n ≤ f → closed v m (segmentsFrom v m n) ≡ true → Closes v m n) → (k : Segment) → k ≡ segmentAt v i m → closed v m (segmentsFrom v m i) ≡ true → Closes v m i
-  unfolding closed
-  by-kind f i h ih (Finished t n) e c = go (says (valueFrom v i m) "UNT") refl (ap (closed v m) (sym (list-finished v m i (Finished t n) e t n refl)) ∙ c)
+  by-kind : (f i : ℕ) → length m - i ≤ suc f → ((n : ℕ) → length m - n ≤ f → closedAt v m (length m) (segmentsFrom v m n) ≡ true → Closes v m n) → (k : Segment) → k ≡ segmentAt v i m → closedAt v m (length m) (segmentsFrom v m i) ≡ true → Closes v m i
+  unfolding closedAt tagAt
+  by-kind f i h ih (Finished t n) e c = go (says (valueFrom v i m) "UNT") refl (ap (closedAt v m (length m)) (sym (list-finished v m i (Finished t n) e t n refl)) ∙ c)
     where
-      go : (b : Bool) → says (valueFrom v i m) "UNT" ≡ b → if b (eqb (t + 1) (length m)) (closed v m (segmentsFrom v m n)) ≡ true → Closes v m i
-      go true g d = let w = lies v m i (Finished t n) e t n refl in let z = eqb-true (t + 1) (length m) d in closes-last i t n e (eqb-true (codeOf (valueFrom v i m)) (letters "UNT") g ∙ unt-letters) (omega arith)
+      go : (b : Bool) → says (valueFrom v i m) "UNT" ≡ b → if b (eqb (t + 1) (length m)) (closedAt v m (length m) (segmentsFrom v m n)) ≡ true → Closes v m i
+      go true g d = let w = lies v m i (Finished t n) e t n refl in let z = eqb-true (t + 1) (length m) d in closes-last i t n e (eqb-true (tagOn v m i) UNT (sym (unt-code (valueFrom v i m)) ∙ g)) (omega arith)
       go false g d = let w = lies v m i (Finished t n) e t n refl in closes-more i t n e (ih n (omega arith) d)
-  by-kind f i h ih Unfinished e c = absurd (never false refl (ap (closed v m) (sym (list-unfinished v m i Unfinished e refl)) ∙ c))
-  by-kind f i h ih Nothing e c = absurd (never false refl (ap (closed v m) (sym (list-nothing v m i Nothing e refl)) ∙ c))
+  by-kind f i h ih Unfinished e c = absurd (never false refl (ap (closedAt v m (length m)) (sym (list-unfinished v m i Unfinished e refl)) ∙ c))
+  by-kind f i h ih Nothing e c = absurd (never false refl (ap (closedAt v m (length m)) (sym (list-nothing v m i Nothing e refl)) ∙ c))
 
-  closes-in : (f i : ℕ) → length m - i ≤ f → closed v m (segmentsFrom v m i) ≡ true → Closes v m i
-  unfolding closed
-  closes-in zero i h c = absurd (never false refl (ap (closed v m) (sym (tags-none i (omega arith))) ∙ c))
+  closes-in : (f i : ℕ) → length m - i ≤ f → closedAt v m (length m) (segmentsFrom v m i) ≡ true → Closes v m i
+  unfolding closedAt tagAt
+  closes-in zero i h c = absurd (never false refl (ap (closedAt v m (length m)) (sym (tags-none i (omega arith))) ∙ c))
   closes-in (suc f) i h c = by-kind f i h (closes-in f) (segmentAt v i m) refl c
 
-  pub closes : closed v m (segmentsFrom v m 0) ≡ true → Closes v m 0
+  pub closes : endsClosed v m ≡ true → Closes v m 0
   closes c = closes-in (length m) 0 (omega arith) c
+
+  -- of a closed message as many tags are placed as the tally counts segments, and so LIN and SEQ tags
+  pub tags-counted : endsClosed v m ≡ true
+      → (tallyOf v m (segmentsFrom v m 0) .segments ≡ length (tagsOf v m)) × (tallyOf v m (segmentsFrom v m 0) .orders ≡ times LIN (tagsOf v m)) × (tallyOf v m (segmentsFrom v m 0) .payments ≡ times SEQ (tagsOf v m))
+  tags-counted c = let w = closes c in (w .segments, w .orders, w .payments)

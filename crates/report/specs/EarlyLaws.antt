@@ -1,18 +1,16 @@
--- What applies under 1 and 10 to 14 comes before all else. Assumes nothing.
-use Prim.Native.Nat.{ℕ, suc, _+_, _≤_, _<_}
+-- What applies under 1, 2 and 10 to 14 comes before all else. Assumes nothing.
+use Prim.Native.Nat.{ℕ, _≤_, _<_}
 use native.Mathlib.Omega.{arith}
-use mathlib.Core.Path.{_≡_, refl, sym, ap, _∙_, subst}
+use mathlib.Core.Path.{_≡_, refl, sym, _∙_, subst}
 use mathlib.Core.Logic.{_⊎_, inl, inr}
 use mathlib.Core.List.{List, [], _∷_, _++_}
 use Rattle.service.specs.declared.Service.{Service}
-use Rattle.segments.specs.SegmentList.{Piece, segmentsFrom}
-use Rattle.faults.specs.declared.Fault.{Fault}
 use Rattle.faults.specs.declared.Fault.the-variants as fault
-use Rattle.message.specs.Segs.{Seg}
+use Rattle.message.specs.Segs.{Seg, segsOf}
 use Rattle.message.specs.Rules.{paymul}
 use Rattle.message.specs.Faults.{rank, Told, told, tell, tellAll, least, leastOf}
 use Rattle.message.specs.FaultLaws.{Rising, byRules, by-rules}
-use Rattle.report.specs.Reported.{Room, early, In, here, there, Applies, soon, misfit, late, Lowest}
+use Rattle.report.specs.Reported.{Bare, bareOf, Room, early, In, here, there, Applies, soon, misfit, late, Lowest}
 use Rattle.report.specs.LeastLaws.{NotAfter, nowhere, least-in, least-first}
 
 -- the numbers of some rules lie from lo to hi
@@ -31,21 +29,21 @@ unfolding tellAll Numbers
 numbers-told lo hi [] a h i = absurd (nowhere a [] refl i)
 numbers-told lo hi (r ∷ rs) a h i = number-told lo hi (r .0) (r .1) (tellAll rs) a (h .0) (h .1) (numbers-told lo hi rs a (h .2)) i
 
-early-numbers : (v : Service) (m : List ℕ) (l : List Piece) (x : Room) → Numbers 1 14 (early v m l x)
+early-numbers : (b : Bare) (x : Room) → Numbers 1 14 (early b x)
 unfolding Numbers early
-early-numbers v m l x = omega arith
+early-numbers b x = omega arith
 
 pub late-numbers : (m : List Seg) → Numbers 17 29 (paymul m)
 unfolding Numbers
 late-numbers m = omega arith
 
 -- the rules stand in the order of their ranks, so the code's chain of tests gives the least
-early-rising : (v : Service) (m : List ℕ) (l : List Piece) (x : Room) → Rising 0 (early v m l x)
+early-rising : (b : Bare) (x : Room) → Rising 0 (early b x)
 unfolding rank early
-early-rising v m l x = omega arith
+early-rising b x = omega arith
 
-pub early-least : (v : Service) (m : List ℕ) (l : List Piece) (x : Room) → leastOf (tellAll (early v m l x)) ≡ byRules (early v m l x) fault.None
-early-least v m l x = by-rules 0 (early v m l x) (early-rising v m l x)
+pub early-least : (b : Bare) (x : Room) → leastOf (tellAll (early b x)) ≡ byRules (early b x) fault.None
+early-least b x = by-rules 0 (early b x) (early-rising b x)
 
 rank-is : (n : ℕ) → rank n ≡ n
 unfolding rank
@@ -56,25 +54,25 @@ module _ (v : Service) (m : List ℕ) (x : Room) where
   lowest-by n s k t h (inl g) = inl g
   lowest-by n s k t h (inr g) = inr (sym (rank-is n) ∙ g .0 ∙ rank-is k, g .1)
 
-  first-by : (b : Told) (l : List Told) → (b ∷ l) ≡ tellAll (early v m (segmentsFrom v m 0) x) → (n s : ℕ) → least b l ≡ told n s → n ≤ 14 → (k t : ℕ) → Applies v m x k t → (rank n < rank k) ⊎ ((n ≡ k) × (s ≤ t))
+  first-by : (b : Told) (l : List Told) → (b ∷ l) ≡ tellAll (early (bareOf v m) x) → (n s : ℕ) → least b l ≡ told n s → n ≤ 14 → (k t : ℕ) → Applies v m x k t → (rank n < rank k) ⊎ ((n ≡ k) × (s ≤ t))
   first-by b l q n s w h k t (soon i) = lowest-by n s k t h (subst (λ (c : Told). NotAfter c (told k t)) w (least-first b l (told k t) (subst (λ (u : List Told). In (told k t) u) (sym q) i)))
   first-by b l q n s w h k t (misfit j f p r) = let e = rank-is n in let g = rank-is k in inl (omega arith)
-  first-by b l q n s w h k t (late rows r i) = let e = rank-is n in let g = rank-is k in let z = numbers-told 17 29 _ (told k t) (late-numbers _) i .0 in inl (omega arith)
+  first-by b l q n s w h k t (late rows r i) = let e = rank-is n in let g = rank-is k in let z = numbers-told 17 29 _ (told k t) (late-numbers (segsOf v m rows)) i .0 in inl (omega arith)
 
-  at-by : (l : List Told) → l ≡ tellAll (early v m (segmentsFrom v m 0) x) → (n s : ℕ) → leastOf l ≡ fault.At n s → Lowest v m x n s
+  at-by : (l : List Told) → l ≡ tellAll (early (bareOf v m) x) → (n s : ℕ) → leastOf l ≡ fault.At n s → Lowest v m x n s
   unfolding leastOf
   at-by [] q n s p = absurd (let z : _≡_ {A = ℕ} 0 1 = cc in omega arith)
   at-by (b ∷ l) q n s p =
       let y : least b l .number ≡ n = cc in
       let z : least b l .segment ≡ s = cc in
       let w : least b l ≡ told n s = λ i. record { number = y i; segment = z i } in
-      let i : In (told n s) (tellAll (early v m (segmentsFrom v m 0) x)) = subst (λ (t : List Told). In (told n s) t) q (subst (λ (a : Told). In a (b ∷ l)) w (least-in b l)) in
-      let h : n ≤ 14 = numbers-told 1 14 _ (told n s) (early-numbers v m (segmentsFrom v m 0) x) i .1 in
+      let i : In (told n s) (tellAll (early (bareOf v m) x)) = subst (λ (t : List Told). In (told n s) t) q (subst (λ (a : Told). In a (b ∷ l)) w (least-in b l)) in
+      let h : n ≤ 14 = numbers-told 1 14 _ (told n s) (early-numbers (bareOf v m) x) i .1 in
       record { applies = soon i; least = first-by b l q n s w h }
 
   -- refused early: whatever else would apply
-  pub early-lowest : (n s : ℕ) → leastOf (tellAll (early v m (segmentsFrom v m 0) x)) ≡ fault.At n s → Lowest v m x n s
-  early-lowest n s p = at-by (tellAll (early v m (segmentsFrom v m 0) x)) refl n s p
+  pub early-lowest : (n s : ℕ) → leastOf (tellAll (early (bareOf v m) x)) ≡ fault.At n s → Lowest v m x n s
+  early-lowest n s p = at-by (tellAll (early (bareOf v m) x)) refl n s p
 
   none-by : (l : List Told) → leastOf l ≡ fault.None → l ≡ []
   unfolding leastOf
@@ -82,5 +80,5 @@ module _ (v : Service) (m : List ℕ) (x : Room) where
   none-by (b ∷ l) p = absurd (let z : _≡_ {A = ℕ} 0 1 = cc in omega arith)
 
   -- none early: the premise of the late laws
-  pub early-none : leastOf (tellAll (early v m (segmentsFrom v m 0) x)) ≡ fault.None → tellAll (early v m (segmentsFrom v m 0) x) ≡ []
-  early-none p = none-by (tellAll (early v m (segmentsFrom v m 0) x)) p
+  pub early-none : leastOf (tellAll (early (bareOf v m) x)) ≡ fault.None → tellAll (early (bareOf v m) x) ≡ []
+  early-none p = none-by (tellAll (early (bareOf v m) x)) p

@@ -1,22 +1,20 @@
 -- A placed message to which no early fault applies: what `judge` gives is the lowest fault that applies, and none is given exactly if none applies. Assumes nothing.
 use Prim.Native.Nat.{ℕ, suc, _+_, _≤_, _<_}
-use mathlib.Core.Path.{_≡_, refl, sym, ap, _∙_, subst}
+use mathlib.Core.Path.{_≡_, refl, sym, _∙_, subst}
 use mathlib.Core.Logic.{_⊎_, inl, inr}
-use mathlib.Core.List.{List, [], _∷_, _++_}
+use mathlib.Core.List.{List, [], _∷_}
 use native.Mathlib.Omega.{arith}
 use lib.ListN.{take, drop, take-append-drop}
 use Rattle.service.specs.declared.Service.{Service}
-use Rattle.segments.specs.SegmentList.{segmentsFrom}
-use Rattle.faults.specs.declared.Fault.{Fault}
 use Rattle.faults.specs.declared.Fault.the-variants as fault
 use Rattle.chart.specs.Chart.{Placement, Reading, FirstMisfit}
-use Rattle.chart.specs.Table.{chart}
 use Rattle.chart.specs.Tags.{tagsOf}
+use Rattle.chart.specs.Paymul.{chart}
 use Rattle.chart.proofs.Theorems.{one-reading, one-misfit}
 use Rattle.message.specs.Segs.{segsOf}
 use Rattle.message.specs.Rules.{paymul}
 use Rattle.message.specs.Faults.{rank, Told, told, tellAll, least, leastOf}
-use Rattle.report.specs.Reported.{Room, early, In, here, there, Applies, soon, misfit, late, Lowest}
+use Rattle.report.specs.Reported.{bareOf, Room, early, In, here, there, Applies, soon, misfit, late, Lowest}
 use Rattle.report.specs.LeastLaws.{NotAfter, nowhere, least-in, least-first}
 
 -- a number has one rank
@@ -28,7 +26,7 @@ rank-one n k e = e
 no-misfit : (ts ns : List ℕ) → Placement chart ts ns → (j : ℕ) → FirstMisfit chart ts j → ⊥
 no-misfit ts ns p j f = f .misfit (record { tail = drop (suc j) ts; nos = ns; placement = subst (λ (l : List ℕ). Placement chart l ns) (sym (take-append-drop (suc j) ts)) p })
 
-module _ (v : Service) (m : List ℕ) (x : Room) (rows : List ℕ) (r : Reading chart (tagsOf v m) rows) (e : tellAll (early v m (segmentsFrom v m 0) x) ≡ []) where
+module _ (v : Service) (m : List ℕ) (x : Room) (rows : List ℕ) (r : Reading chart (tagsOf v m) rows) (e : tellAll (early (bareOf v m) x) ≡ []) where
   -- what applies is told by the rules on the placed message
   only-late : (n s : ℕ) → Applies v m x n s → In (told n s) (tellAll (paymul (segsOf v m rows)))
   only-late n s (soon i) = absurd (nowhere (told n s) _ e i)
@@ -65,7 +63,7 @@ module _ (v : Service) (m : List ℕ) (x : Room) (rows : List ℕ) (r : Reading 
   late-lowest n s p = at-by (tellAll (paymul (segsOf v m rows))) refl n s p
 
 -- 16, where there is no placement
-module _ (v : Service) (m : List ℕ) (x : Room) (j : ℕ) (f : FirstMisfit chart (tagsOf v m) j) (e : tellAll (early v m (segmentsFrom v m 0) x) ≡ []) where
+module _ (v : Service) (m : List ℕ) (x : Room) (j : ℕ) (f : FirstMisfit chart (tagsOf v m) j) (e : tellAll (early (bareOf v m) x) ≡ []) where
   misfit-first : (k t : ℕ) → Applies v m x k t → (rank 16 < rank k) ⊎ ((16 ≡ k) × (j + 1 ≤ t))
   misfit-first k t (soon i) = absurd (nowhere (told k t) _ e i)
   misfit-first k t (misfit j′ f′ p q) = let w = one-misfit chart (tagsOf v m) j j′ f f′ in inr (sym p, omega arith)

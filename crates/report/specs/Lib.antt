@@ -1,6 +1,7 @@
 pub mod Reported
 pub mod ReportedLaws
 pub mod LeastLaws
+pub mod ToldLaws
 pub mod CountLaws
 pub mod LateLaws
 pub mod ClosedLaws
@@ -11,7 +12,9 @@ pub mod UntLaws
 pub mod Checks
 pub mod ChecksLaws
 pub mod PieceLaws
+pub mod RefusalLaws
 pub mod TenLaws
 pub mod FillLaws
 pub mod CheckLaws
 pub mod FewLaws
+pub mod AlikeLaws

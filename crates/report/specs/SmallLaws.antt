@@ -9,21 +9,20 @@ use lib.ListN.{length}
 use Rattle.segments.specs.Classes.{if}
 use Rattle.service.specs.declared.Service.{Service}
 use Rattle.values.specs.Values.{sameList, amountOf}
-use Rattle.chart.specs.Tags.{startsOf}
-use Rattle.message.specs.Text.{says}
+use Rattle.segments.specs.SegmentList.{startsOf}
+use Rattle.values.specs.Text.{says}
 use Rattle.message.specs.Segs.{Seg, Stretch, segAt, segsFrom, segsOf, those, until, stretches, each, LIN, MOA5, CUX5, FII6, NAD7, PRC10, SEQ, MOA11, FII12, NAD13, PRC16, FTX16, DOC17, CNT, UNT, is, orders, payments, details}
 use Rattle.message.specs.Rules.{writes, capitals, isOf, worth, count, some, reference, qualifier, amount, currency, cuxHolds, sum, named, party, orderHolds, paymentHolds, detailsHold, fault21, fault23, fault24, fault25, fault26, fault27B, fault27C, fault28B, fault28C, unless, failing, misnumbered, rule17, rule18, rule20, rule21, rule22, rule23, rule24, rule25, rule26, rule27, rule28, rule29, paymul}
-use Rattle.message.specs.Faults.{Told, told, tell, tellAll}
-use Rattle.report.specs.Reported.{In, here, there}
-use Rattle.report.specs.LeastLaws.{nowhere}
+use Rattle.message.specs.Faults.{told, tellAll}
+use Rattle.report.specs.Reported.{In}
+use Rattle.report.specs.ToldLaws.{Every, All, all-told}
 
 -- from 1 to b
 abbrev pub Within : ℕ → ℕ → Type 0
 Within b n = (1 ≤ n) × (n ≤ b)
 
 abbrev pub Places : ℕ → List ℕ → Type 0
-Places b [] = Unit {0}
-Places b (n ∷ l) = Within b n × Places b l
+Places b = Every (Within b)
 
 abbrev pub Segs : ℕ → List Seg → Type 0
 Segs b [] = Unit {0}
@@ -81,12 +80,8 @@ module _ (b : ℕ) where
   head-and : (t : Bool) (u k : Seg → Bool) (s : Seg) (ss : List Seg) → Within b (s .nth) → Segs b ss → Places b (unless t s ++ failing u (those k ss))
   head-and t u k s ss h g = append-within (unless t s) (failing u (those k ss)) (unless-within t s h) (failing-within u (those k ss) (those-within k ss g))
 
-  All : List (ℕ × List ℕ) → Type 0
-  All [] = Unit {0}
-  All (r ∷ rs) = Places b (r .1) × All rs
-
-  rules-within : (m : List Seg) → Segs b m → All (paymul m)
-  unfolding All rule17 rule18 rule20 rule21 rule22 rule23 rule24 rule25 rule26 rule27 rule28 rule29
+  rules-within : (m : List Seg) → Segs b m → All (λ n. Within b) (paymul m)
+  unfolding rule17 rule18 rule20 rule21 rule22 rule23 rule24 rule25 rule26 rule27 rule28 rule29
   rules-within m h = (
     failing-within (λ s. writes (s .value 1 0) (length m)) (those (is UNT) m) (those-within (is UNT) m h),
     (
@@ -129,18 +124,6 @@ module _ (b : ℕ) where
     ),
   )
 
-  -- what is told
-  told-within : (k : ℕ) (ps : List ℕ) (l : List Told) (a : Told) → Places b ps → (In a l → Within b (a .segment)) → In a (tell k ps ++ l) → Within b (a .segment)
-  unfolding tell
-  told-within k [] l a h g i = g i
-  told-within k (p ∷ ps) l a h g here = h .0
-  told-within k (p ∷ ps) l a h g (there i) = told-within k ps l a (h .1) g i
-
-  all-within : (rs : List (ℕ × List ℕ)) (a : Told) → All rs → In a (tellAll rs) → Within b (a .segment)
-  unfolding tellAll All
-  all-within [] a h i = absurd (nowhere a [] refl i)
-  all-within (r ∷ rs) a h i = told-within (r .0) (r .1) (tellAll rs) a (h .0) (all-within rs a (h .1)) i
-
 -- the segments of a message
 segs-within : (v : Service) (m : List ℕ) (b n : ℕ) (rs is : List ℕ) → 1 ≤ n → n + length rs ≤ suc b → Segs b (segsFrom v m n rs is)
 unfolding segsFrom
@@ -151,4 +134,4 @@ segs-within v m b n (r ∷ rs) (i ∷ is) h g = ((h, omega arith), segs-within v
 -- so a refusal under 17 to 29 names a segment of the message
 pub late-within : (v : Service) (m rows : List ℕ) (n s : ℕ) → In (told n s) (tellAll (paymul (segsOf v m rows))) → Within (length rows) s
 late-within v m rows n s i =
-    all-within (length rows) (paymul (segsOf v m rows)) (told n s) (rules-within (length rows) (segsOf v m rows) (segs-within v m (length rows) 1 rows (startsOf v m) (omega arith) (omega arith))) i
+    all-told (λ n. Within (length rows)) (paymul (segsOf v m rows)) (told n s) (rules-within (length rows) (segsOf v m rows) (segs-within v m (length rows) 1 rows (startsOf v m) (omega arith) (omega arith))) i

@@ -10,7 +10,9 @@ use borrow.Author.Tests.{eqb-true, eqb-false, leb-true}
 use Rattle.segments.specs.Classes.{if}
 use Rattle.chart.specs.Chart.{Rows, none, row, Placement, no-rows, row-then, Occurrences, no-more, one-then}
 use Rattle.chart.specs.Machine.{and, or}
-use Rattle.chart.specs.Table.{chart, table, rowOver, inside}
+use Rattle.table.specs.Entries.{linesFrom, within, text}
+use Rattle.chart.specs.Table.{chartOf, rowOver, inside}
+use Rattle.chart.specs.Paymul.{PAYMUL, chart, table}
 use Rattle.chart.proofs.Theory.{and-left, and-right}
 use Rattle.report.specs.CountLaws.{times}
 
@@ -34,7 +36,7 @@ paired a b (row num tag req most others rest) =
 
 -- THE COMPUTED TEST
 chart-paired : T (paired 23 17 chart)
-unfolding paired oneRow lacksRow chart table rowOver inside
+unfolding paired oneRow lacksRow PAYMUL table linesFrom within text chartOf rowOver inside
 chart-paired = tt
 
 times-none : (a : ℕ) → times a [] ≡ 0

@@ -2,10 +2,10 @@
 use Prim.Native.Nat.{ℕ, zero, suc, _+_, _-_, _≤_, _<_}
 use native.Mathlib.Omega.{arith}
 use mathlib.Core.Path.{_≡_, refl, sym, ap, _∙_, subst}
-use mathlib.Core.List.{List, [], _∷_}
+use mathlib.Core.List.{List}
 use mathlib.Core.Bool.{Bool, true, false, not}
 use lib.ListN.{length}
-use lib.Dec.{eqb, leb}
+use lib.Dec.{eqb}
 use borrow.Author.Tests.{le-leb}
 use Rattle.service.specs.declared.Service.{Service}
 use Rattle.segments.specs.declared.Segment.{Segment}
@@ -13,26 +13,27 @@ use Rattle.segments.specs.declared.Segment.the-variants.{Finished, Unfinished, 
 use Rattle.segments.specs.Classes.{if}
 use Rattle.segments.specs.Segments.{segmentAt}
 use Rattle.segments.specs.SegmentsLaws.{lies, segment-nothing}
-use Rattle.segments.specs.SegmentList.{Piece, finished, unfinished, segmentsFrom}
+use Rattle.segments.specs.SegmentList.{segmentsFrom}
 use Rattle.segments.specs.ListLaws.{list-nothing, list-finished, list-unfinished}
-use Rattle.values.specs.Values.{valueFrom, codeFrom, codeOf}
+use Rattle.values.specs.Values.{valueFrom, codeOf}
 use Rattle.faults.specs.declared.First.{First}
 use Rattle.faults.specs.declared.First.the-variants as first
-use Rattle.faults.specs.Firsts.{lesser, lesserBy, placeUnless}
+use Rattle.faults.specs.Firsts.{lesser, placeUnless}
 use Rattle.tally.specs.declared.Tally.{Tally}
 use Rattle.tally.specs.Tallied.{UNT, tallyOf}
-use Rattle.message.specs.Text.{text, letters, says}
-use Rattle.report.specs.Reported.{closed}
+use Rattle.values.specs.Text.{says}
+use Rattle.interchange.specs.TagLaws.{unt-code}
+use Rattle.interchange.specs.Messages.{tagAt, closedAt, endsClosed}
 
--- by the segment at the first UNT
-abbrev pub closedBy : ℕ → Segment → Bool
-closedBy n (Finished e k) = eqb (e + 1) n
-closedBy n Unfinished = false
-closedBy n Nothing = false
+-- whether the segment at a place is finished and ends the bytes
+abbrev pub endsBy : ℕ → Segment → Bool
+endsBy n (Finished e k) = eqb (e + 1) n
+endsBy n Unfinished = false
+endsBy n Nothing = false
 
-abbrev pub closedAt : Service → List ℕ → First → Bool
-closedAt v m first.None = false
-closedAt v m (first.At p) = closedBy (length m) (segmentAt v p m)
+abbrev pub endsWith : Service → List ℕ → First → Bool
+endsWith v m first.None = false
+endsWith v m (first.At p) = endsBy (length m) (segmentAt v p m)
 
 -- not before i
 abbrev From : ℕ → First → Type 0
@@ -40,12 +41,8 @@ From i first.None = Unit {0}
 From i (first.At p) = i ≤ p
 
 record Untied (v : Service) (m : List ℕ) (i : ℕ) : Type 0 where
-  same : closedAt v m (tallyOf v m (segmentsFrom v m i) .unt) ≡ closed v m (segmentsFrom v m i)
+  same : endsWith v m (tallyOf v m (segmentsFrom v m i) .unt) ≡ closedAt v m (length m) (segmentsFrom v m i)
   from : From i (tallyOf v m (segmentsFrom v m i) .unt)
-
-unt-letters : letters "UNT" ≡ UNT
-unfolding text codeFrom
-unt-letters = refl
 
 from-lower : (i n : ℕ) (f : First) → i ≤ n → From n f → From i f
 from-lower i n first.None h g = tt
@@ -59,34 +56,34 @@ lesser-from i n (first.At p) h g = let w : i ≤ p = omega arith in rw (le-leb i
 module _ (v : Service) (m : List ℕ) where
   module _ (i t n : ℕ) (e : Finished t n ≡ segmentAt v i m) (u : Untied v m n) where
     more-by : (b : Bool) → eqb (codeOf (valueFrom v i m)) UNT ≡ b → (f : First) → f ≡ lesser (placeUnless (not b) i) (tallyOf v m (segmentsFrom v m n) .unt)
-        → (closedAt v m f ≡ if b (eqb (t + 1) (length m)) (closed v m (segmentsFrom v m n))) × From i f
+        → (endsWith v m f ≡ if b (eqb (t + 1) (length m)) (closedAt v m (length m) (segmentsFrom v m n))) × From i f
     unfolding lesser
     more-by true g f q =
         let w = lies v m i (Finished t n) e t n refl in
         let z : f ≡ first.At i = q ∙ lesser-from i n (tallyOf v m (segmentsFrom v m n) .unt) (omega arith) (u .from) in
-        (ap (closedAt v m) z ∙ ap (closedBy (length m)) (sym e), subst (From i) (sym z) (omega arith))
+        (ap (endsWith v m) z ∙ ap (endsBy (length m)) (sym e), subst (From i) (sym z) (omega arith))
     more-by false g f q =
         let w = lies v m i (Finished t n) e t n refl in
-        (ap (closedAt v m) q ∙ u .same, subst (From i) (sym q) (from-lower i n (tallyOf v m (segmentsFrom v m n) .unt) (omega arith) (u .from)))
+        (ap (endsWith v m) q ∙ u .same, subst (From i) (sym q) (from-lower i n (tallyOf v m (segmentsFrom v m n) .unt) (omega arith) (u .from)))
 
     more : Untied v m i
-    unfolding tallyOf closed
+    unfolding tallyOf closedAt tagAt
     more =
         let q = list-finished v m i (Finished t n) e t n refl in
         let w = more-by (eqb (codeOf (valueFrom v i m)) UNT) refl (lesser (placeUnless (not (eqb (codeOf (valueFrom v i m)) UNT)) i) (tallyOf v m (segmentsFrom v m n) .unt)) refl in
-        record { same = rw (q, unt-letters) (w .0); from = rw q (w .1) }
+        record { same = rw (q, unt-code (valueFrom v i m)) (w .0); from = rw q (w .1) }
 
   by-kind : (f i : ℕ) → length m - i ≤ suc f → ((n : ℕ) → length m - n ≤ f → Untied v m n) → (k : Segment) → k ≡ segmentAt v i m → Untied v m i
-  unfolding tallyOf closed lesser
+  unfolding tallyOf closedAt tagAt lesser
   by-kind f i h ih (Finished t n) e = let w = lies v m i (Finished t n) e t n refl in more i t n e (ih n (omega arith))
   by-kind f i h ih Unfinished e = let q = list-unfinished v m i Unfinished e refl in record { same = rw q; from = rw q tt }
   by-kind f i h ih Nothing e = let q = list-nothing v m i Nothing e refl in record { same = rw q; from = rw q tt }
 
   untied-in : (f i : ℕ) → length m - i ≤ f → Untied v m i
-  unfolding tallyOf closed
+  unfolding tallyOf closedAt tagAt
   untied-in zero i h = let q = list-nothing v m i Nothing (segment-nothing v m i (omega arith)) refl in record { same = rw q; from = rw q tt }
   untied-in (suc f) i h = by-kind f i h (untied-in f) (segmentAt v i m) refl
 
   -- what `is_closed` finds out is that the message is closed
-  pub closed-is : closedAt v m (tallyOf v m (segmentsFrom v m 0) .unt) ≡ closed v m (segmentsFrom v m 0)
+  pub closed-is : endsWith v m (tallyOf v m (segmentsFrom v m 0) .unt) ≡ endsClosed v m
   closed-is = untied-in (length m) 0 (omega arith) .same

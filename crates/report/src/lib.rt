@@ -3,9 +3,16 @@ ghost use mathlib.Core.Path.{_≡_};
 ghost use Prim.Native.Nat.{_+_, _%_};
 ghost use mathlib.Core.Bool.{_&&_};
 ghost use lib.Dec.{leb};
-ghost use Rattle.report.specs.Reported.{headed, Reported};
-ghost use Rattle.report.specs.UntLaws.{closedAt};
-ghost use Rattle.report.specs.Checks.{typed, earlyFault, Late, byteRefusal, startBy, refusalAt};
+ghost use Rattle.lent.specs.Lists.{lists};
+ghost use lib.ListN.{length};
+ghost use Rattle.service.specs.Service.{fitting};
+ghost use Rattle.chart.specs.Paymul.{PAYMUL};
+ghost use Rattle.message.specs.Rules.{paymulOf};
+ghost use Rattle.message.specs.Faults.{tellAll, leastOf};
+ghost use Rattle.rules.specs.Placed.{placedOn};
+ghost use Rattle.report.specs.Reported.{Reported};
+ghost use Rattle.report.specs.UntLaws.{endsWith};
+ghost use Rattle.report.specs.Checks.{typed, headedAt, outright, earlyFault, Late, byteRefusal, startBy, refusalAt};
 use chart::Placed;
 use faults::Fault;
 use faults::First;
@@ -25,9 +32,22 @@ pub enum Report {
     Refused(Refusal),
 }
 
+// 1 for too many bytes, 2 for characters that are not fit, else 0.
+fn refused_outright(m: &[u8], v: Service) -> u32
+    ensures { λ r. ⌜ r ≡ outright (leb (length (now (m .entry))) 1048576) (fitting v) ⌝ }
+{
+    if interchange::MOST < m.len() {
+        return 1;
+    }
+    if service::fits(v) {
+        return 0;
+    }
+    2
+}
+
 // Whether the first UNT is there and ends the bytes.
 fn is_closed(m: &[u8], v: Service, unt: First) -> bool
-    ensures { λ r. ⌜ r ≡ closedAt v (now (m .entry)) unt ⌝ }
+    ensures { λ r. ⌜ r ≡ endsWith v (now (m .entry)) unt ⌝ }
 {
     match unt {
         First::None => false,
@@ -58,7 +78,7 @@ fn is_paymul(m: &[u8], v: Service, unh: bool) -> bool
 
 // Whether the first segment is a UNH with a reference of 1 to 14 bytes and the type.
 fn has_header(m: &[u8], v: Service) -> bool
-    ensures { λ r. ⌜ r ≡ headed v (now (m .entry)) ⌝ }
+    ensures { λ r. ⌜ r ≡ headedAt v (now (m .entry)) ⌝ }
 {
     let tag = values::code_at(m, 0, v);
     let p = parts::component(m, 0, v, 1, 0);
@@ -69,7 +89,7 @@ fn has_header(m: &[u8], v: Service) -> bool
 
 // The faults that come before the lists, by number and segment: 11 to 13.
 fn early_fault(m: &[u8], v: Service, t: Tally) -> Fault
-    ensures { λ r. ⌜ r ≡ earlyFault (closedAt v (now (m .entry)) (t .unt)) (headed v (now (m .entry))) (t .segments) ⌝ }
+    ensures { λ r. ⌜ r ≡ earlyFault (endsWith v (now (m .entry)) (t .unt)) (headedAt v (now (m .entry))) (t .segments) ⌝ }
 {
     let unt = t.unt;
     if is_closed(m, v, unt) {
@@ -91,13 +111,21 @@ fn ordinal(n: usize) -> usize
     n % 4294967295 + 1
 }
 
+// The rules on a message that is placed, by number and segment: 17 to 29.
+fn judged(m: &[u8], v: Service, segments: u64, orders: u64) -> Fault
+    ensures { λ r. ⌜ r ≡ leastOf (tellAll (paymulOf segments orders (placedOn PAYMUL v (now (m .entry))))) ⌝ }
+{
+    let chart = paymul::chart();
+    rules::judge(m, v, &chart, segments, orders)
+}
+
 // The faults that come after the lists, by number and segment: 16 to 29.
 fn late_fault(m: &[u8], v: Service, t: Tally) -> Fault
     ensures { λ r. ⌜ Late v (now (m .entry)) (t .segments) (t .orders) r ⌝ }
 {
     let w = chart::place(m, v);
     match w {
-        Placed::Whole => rules::judge(m, v, t.segments as u64, t.orders as u64),
+        Placed::Whole => judged(m, v, t.segments as u64, t.orders as u64),
         Placed::Stuck(at) => Fault::At(16, ordinal(tally::segments_before(m, v, at))),
     }
 }
@@ -150,10 +178,11 @@ pub fn check(
     starts: &mut [u32],
     totals: &mut [u64],
 ) -> Report
-    ensures { λ r. ⌜ Reported v (now (m .entry)) (now (rows .entry)) (now (rows .exit)) (now (starts .entry)) (now (starts .exit)) (now (totals .entry)) (now (totals .exit)) r ⌝ }
+    ensures { λ r. ⌜ Reported v (now (m .entry)) (lists (now (rows .entry)) (now (starts .entry)) (now (totals .entry))) (lists (now (rows .exit)) (now (starts .exit)) (now (totals .exit))) r ⌝ }
 {
-    if interchange::MOST < m.len() {
-        return Report::Refused(interchange::refuse(1));
+    let number = refused_outright(m, v);
+    if number != 0 {
+        return Report::Refused(interchange::refuse(number));
     }
     let t = tally::tally_of(m, v);
     let bad = t.bad;

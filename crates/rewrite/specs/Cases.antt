@@ -3,7 +3,8 @@ use Prim.Native.Nat.{ℕ}
 use mathlib.Core.Path.{_≡_}
 use mathlib.Core.List.{List, [], _∷_}
 use Rattle.service.specs.Service.{plainService}
-use Rattle.rewrite.specs.Plain.{valuesFrom, plain}
+use Rattle.parts.specs.Trimmed.{valuesFrom}
+use Rattle.rewrite.specs.Plain.{plain}
 
 -- segments and what they are in plain service characters
 abbrev pub RewritesTo : List ℕ → List ℕ → Type 0

@@ -4,7 +4,8 @@ use Rattle.service.specs.Service.{among}
 use Rattle.segments.specs.Classes.{classOf}
 use Rattle.segments.specs.SegmentList.{pieces}
 use Rattle.parts.specs.Parts.{lex, elements}
-use Rattle.rewrite.specs.Plain.{trim, trimmed, valuesIn, isReleased, plainByte, plainValue, behind, plainElement, plainElements, plainSegment, plain}
+use Rattle.parts.specs.Trimmed.{trim, trimmed, valuesIn}
+use Rattle.rewrite.specs.Plain.{isReleased, plainByte, plainValue, behind, plainElement, plainElements, plainSegment, plain}
 use Rattle.rewrite.specs.Cases.{Cases}
 
 pub cases : Cases

@@ -10,7 +10,8 @@ use Rattle.service.specs.Service.{among}
 use Rattle.segments.specs.Classes.{if, isBreak}
 use Rattle.segments.specs.ResyncLaws.{break-is}
 use Rattle.parts.specs.Parts.{Tok, byte, comp, elem, elements, onFirst, onValue}
-use Rattle.rewrite.specs.Plain.{ahead, trim, Values, trimmed, isReleased, plainByte, plainValue, behind, plainElement, plainElements, begun, plainSegment}
+use Rattle.parts.specs.Trimmed.{ahead, trim, Values, trimmed}
+use Rattle.rewrite.specs.Plain.{isReleased, plainByte, plainValue, behind, plainElement, plainElements, begun, plainSegment}
 use Rattle.rewrite.specs.Flat.{flat, leads, lead}
 
 -- ---- what is dropped

@@ -24,7 +24,8 @@ use Rattle.parts.specs.declared.Token.the-variants as token
 use Rattle.parts.specs.Parts.{lex}
 use Rattle.parts.specs.Lex.{tokenAt}
 use Rattle.parts.specs.LexLaws.{reads-byte, reads-comp, reads-elem, reads-stop}
-use Rattle.rewrite.specs.Plain.{isReleased, plainByte, valuesAt, valuesIn, valuesFrom, plainSegment, plain}
+use Rattle.parts.specs.Trimmed.{valuesAt, valuesIn, valuesFrom}
+use Rattle.rewrite.specs.Plain.{isReleased, plainByte, plainSegment, plain}
 use Rattle.rewrite.specs.Flat.{flat, leads, lead}
 use Rattle.rewrite.specs.FlatLaws.{flat-segment}
 

@@ -6,25 +6,24 @@ use native.Mathlib.Omega.{arith}
 use mathlib.Core.Path.{_≡_, refl, sym, _∙_, ap, ap₂, subst}
 use mathlib.Core.List.{List, [], _∷_}
 use lib.ListN.{length, drop-of-length-le}
-use mathlib.Core.Bool.{Bool, true, false}
-use lib.Dec.{eqb}
-use borrow.Author.Tests.{eqb-true}
 use Rattle.service.specs.declared.Service.{Service}
 use Rattle.service.specs.Service.{plainService}
-use Rattle.segments.specs.Classes.{if}
 use Rattle.segments.specs.SegmentList.{Piece, finished, gap, pieces, segmentsAfter, segmentsFrom}
-use Rattle.values.specs.Numbers.{Bytes}
+use Rattle.parts.specs.Trimmed.{Values, valuesAt, valuesIn}
+use Rattle.values.specs.Text.{text}
 use Rattle.interchange.specs.declared.Opening.the-variants.{Opens}
-use Rattle.interchange.specs.Messages.{tagAt, UNH, UNT, UNZ, isNone, Kind, head, trailer, last, other, cut, kindBy, kindOf, Extent, extentBy, extentOf, messagesBy, messagesOf}
+use Rattle.interchange.specs.Messages.{tagAt, isNone, Kind, head, trailer, last, other, cut, kindOf, Extent, isClosed, extentBy, extentOf, messagesBy, messagesOf}
 use Rattle.interchange.specs.Envelope.{openingOf, bodyOf}
 use Rattle.interchange.specs.Damage.{bytesOf}
 use Rattle.interchange.specs.WalkLaws.{Placed, end, at}
+use Rattle.interchange.specs.TargetLaws.{head-tag}
+use Rattle.interchange.specs.OwnLaws.{membersBy, members, message-finished, message-closed}
 use Rattle.interchange.specs.WalkTheorems.{header, body-is}
-use Rattle.rewrite.specs.Plain.{Values, valuesAt, valuesIn, rewritten}
-use Rattle.rewrite.specs.Alike.{Alike, none, both, isClosed, Pair, Pairs, also}
-use Rattle.rewrite.specs.Alike as pairs
-use Rattle.rewrite.specs.AlikeLaws.{alike, same-code, same-kind}
-use Rattle.rewrite.specs.MessageLaws.{membersBy, members, message-finished, message-values, message-closed}
+use Rattle.interchange.specs.Alike.{Alike, none, both, Pair, Pairs, also}
+use Rattle.interchange.specs.Alike as pairs
+use Rattle.interchange.specs.AlikeLaws.{alike, same-tag, same-kind}
+use Rattle.interchange.specs.MessageLaws.{message-values}
+use Rattle.rewrite.specs.Plain.{rewritten}
 use Rattle.rewrite.specs.RewriteTheorems.{opens-again, alike-body}
 
 -- ---- a segment that stands where it is said to
@@ -61,17 +60,6 @@ there-by v s (at i u k h g w) a t l e =
 
 there : (v : Service) (s : List ℕ) (a t : ℕ) (l : List Piece) → Placed v s (finished a t ∷ l) → There v s a t l
 there v s a t l w = there-by v s w a t l refl
-
--- ---- a message begins with a UNH
-head-tag : (g : ℕ) (e : Bool) → kindBy g e ≡ head → g ≡ UNH
-head-tag g e k = go (eqb g UNH) (eqb g UNT) (eqb g UNZ) e refl k
-  where
-    go : (x y z n : Bool) → eqb g UNH ≡ x → if x head (if y trailer (if z (if n last other) other)) ≡ head → g ≡ UNH
-    go true y z n p q = eqb-true g UNH p
-    go false true z n p q = absurd (let w : _≡_ {A = ℕ} 0 1 = cc in omega arith)
-    go false false true true p q = absurd (let w : _≡_ {A = ℕ} 0 1 = cc in omega arith)
-    go false false true false p q = absurd (let w : _≡_ {A = ℕ} 0 1 = cc in omega arith)
-    go false false false n p q = absurd (let w : _≡_ {A = ℕ} 0 1 = cc in omega arith)
 
 -- ---- alike segments, alike messages
 module _ (v : Service) (s : List ℕ) (v′ : Service) (s′ : List ℕ) where
@@ -111,11 +99,11 @@ module _ (v : Service) (s : List ℕ) (v′ : Service) (s′ : List ℕ) where
 
   -- one message
   same-message : (a t a′ t′ : ℕ) (l l′ : List Piece) → valuesAt v s a ≡ valuesAt v′ s′ a′ → Alike v s v′ s′ l l′ → There v s a t l → There v′ s′ a′ t′ l′
-      → tagAt v′ s′ a′ ≡ UNH → Pair v s v′ s′ (extentOf v s a l) (extentOf v′ s′ a′ l′)
+      → tagAt v′ s′ a′ ≡ text "UNH" → Pair v s v′ s′ (extentOf v s a l) (extentOf v′ s′ a′ l′)
   same-message a t a′ t′ l l′ q w x y u = record {
     closes = same-closes w a a′;
     ends =
-        message-closed v s a t l (x .within) (x .here) (x .next) (x .rest) (same-code v s v′ s′ a a′ q ∙ u)
+        message-closed v s a t l (x .within) (x .here) (x .next) (x .rest) (same-tag v s v′ s′ a a′ q ∙ u)
         ∙ same-closes w a a′
         ∙ sym (message-closed v′ s′ a′ t′ l′ (y .within) (y .here) (y .next) (y .rest) u);
     segments =
@@ -149,8 +137,8 @@ module _ (s : List ℕ) (v : Service) (first : ℕ) (o : openingOf s ≡ Opens v
   body-placed : Placed v s (bodyOf v s first)
   body-placed = subst (Placed v s) (body-is s v first o) (header s v first o .body)
 
-module _ (s : List ℕ) (v : Service) (first : ℕ) (o : openingOf s ≡ Opens v first) (w : Bytes s) (h : length (rewritten s) ≤ 1048576) where
+module _ (s : List ℕ) (v : Service) (first : ℕ) (o : openingOf s ≡ Opens v first) (h : length (rewritten s) ≤ 1048576) where
   pub messages-kept : Pairs v s plainService (rewritten s) (messagesOf v s (bodyOf v s first)) (messagesOf plainService (rewritten s) (bodyOf plainService (rewritten s) 0))
   messages-kept =
-      same-messages v s plainService (rewritten s) (alike-body s v first o w h) (body-placed s v first o)
-      (body-placed (rewritten s) plainService 0 (opens-again s v first o w h))
+      same-messages v s plainService (rewritten s) (alike-body s v first o h) (body-placed s v first o)
+      (body-placed (rewritten s) plainService 0 (opens-again s v first o h))

@@ -10,20 +10,22 @@ use Rattle.service.specs.declared.Service.{Service}
 use Rattle.service.specs.declared.Characters.the-variants.{Fit}
 use Rattle.service.specs.Service.{plainService, beginsUna, charactersOf, among}
 use Rattle.segments.specs.SegmentList.{Piece, finished, gap, pieces, allFinished, segmentsFrom}
+use Rattle.segments.specs.ResyncLaws.{gap-first}
 use Rattle.parts.specs.Parts.{lex, elements, valueAt}
 use Rattle.parts.specs.ValueLaws.{tag-value}
-use Rattle.values.specs.Numbers.{Bytes}
+use Rattle.parts.specs.Trimmed.{Values, valuesAt, valuesIn, valuesFrom}
+use Rattle.parts.specs.TrimLaws.{trimmed-value, values-trimmed}
+use Rattle.values.specs.Text.{text}
 use Rattle.interchange.specs.declared.Opening.the-variants.{Opens}
 use Rattle.interchange.specs.Envelope.{firstAt, openingOf}
 use Rattle.interchange.specs.Opened.{opened, opens}
-use Rattle.interchange.specs.TagLaws.{tag-unb}
+use Rattle.interchange.specs.Messages.{tagAt}
 use Rattle.interchange.specs.WalkLaws.{Placed, end, at}
 use Rattle.interchange.specs.WalkTheorems.{header}
-use Rattle.rewrite.specs.Plain.{Values, valuesAt, valuesIn, valuesFrom, valuesOf, isReleased, plainByte, plainValue, behind, plainElement, plainElements, begun, plainSegment, plain, rewritten}
-use Rattle.rewrite.specs.TrimLaws.{trimmed-value}
-use Rattle.rewrite.specs.ReadLaws.{gap-first, plain-unbroken, segment-pieces, read-back}
-use Rattle.rewrite.specs.Alike.{Alike}
-use Rattle.rewrite.specs.AlikeLaws.{values-trimmed, alike, same-headed, same-ended}
+use Rattle.interchange.specs.Alike.{Alike}
+use Rattle.interchange.specs.AlikeLaws.{alike, same-headed, same-ended}
+use Rattle.rewrite.specs.Plain.{valuesOf, isReleased, plainByte, plainValue, behind, plainElement, plainElements, begun, plainSegment, plain, rewritten}
+use Rattle.rewrite.specs.ReadLaws.{plain-unbroken, segment-pieces, read-back}
 
 -- ---- every segment of plain bytes is finished
 finished-first : (a t : ℕ) (l : List Piece) → allFinished l ≡ true → allFinished (finished a t ∷ l) ≡ true
@@ -103,32 +105,32 @@ module _ (s : List ℕ) (v : Service) (first : ℕ) (o : openingOf s ≡ Opens v
   alike-rewritten =
       alike v s plainService (rewritten s) (segmentsFrom v s first) (segmentsFrom plainService (rewritten s) 0) all-finished rewritten-finished (sym same-values)
 
-  module _ (w : Bytes s) where
-    unb-value : valueAt (valuesAt v s first) 0 0 ≡ 85 ∷ 78 ∷ 66 ∷ []
-    unb-value =
-        trimmed-value (elements (lex v false (drop first s))) 0 0
-        ∙ sym (tag-value (lex v false (drop first s)))
-        ∙ tag-unb v s first w .0 (header s v first o .tag)
+  unb-value : valueAt (valuesAt v s first) 0 0 ≡ 85 ∷ 78 ∷ 66 ∷ []
+  unfolding tagAt text
+  unb-value =
+      trimmed-value (elements (lex v false (drop first s))) 0 0
+      ∙ sym (tag-value (lex v false (drop first s)))
+      ∙ header s v first o .tag
 
-    rewritten-characters : charactersOf (rewritten s) ≡ Fit plainService 0
-    rewritten-characters =
-        ap charactersOf (rewritten-by ∙ ap plain first-values)
-        ∙ plain-characters (valuesAt v s first) (valuesFrom v s (header s v first o .next)) unb-value
+  rewritten-characters : charactersOf (rewritten s) ≡ Fit plainService 0
+  rewritten-characters =
+      ap charactersOf (rewritten-by ∙ ap plain first-values)
+      ∙ plain-characters (valuesAt v s first) (valuesFrom v s (header s v first o .next)) unb-value
 
-    first-zero : firstAt (rewritten s) 0 ≡ 0
-    unfolding firstAt
-    first-zero = refl
+  first-zero : firstAt (rewritten s) 0 ≡ 0
+  unfolding firstAt
+  first-zero = refl
 
-    -- the plain bytes open, with the default characters, if they are no more than an interchange may have
-    pub reopens : length (rewritten s) ≤ 1048576 → openingOf (rewritten s) ≡ Opens plainService 0
-    reopens h =
-        let f = opened s v first o in
-        opens (rewritten s) plainService 0
-        (record {
-          una = 0;
-          short = h;
-          named = rewritten-characters;
-          begins = first-zero;
-          heads = sym (same-headed v s plainService (rewritten s) alike-rewritten) ∙ f .heads;
-          closes = sym (same-ended v s plainService (rewritten s) alike-rewritten false) ∙ f .closes;
-        })
+  -- the plain bytes open, with the default characters, if they are no more than an interchange may have
+  pub reopens : length (rewritten s) ≤ 1048576 → openingOf (rewritten s) ≡ Opens plainService 0
+  reopens h =
+      let f = opened s v first o in
+      opens (rewritten s) plainService 0
+      (record {
+        una = 0;
+        short = h;
+        named = rewritten-characters;
+        begins = first-zero;
+        heads = sym (same-headed v s plainService (rewritten s) alike-rewritten) ∙ f .heads;
+        closes = sym (same-ended v s plainService (rewritten s) alike-rewritten false) ∙ f .closes;
+      })

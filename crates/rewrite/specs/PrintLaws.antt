@@ -15,7 +15,8 @@ use Rattle.segments.specs.ResyncLaws.{break-is}
 use Rattle.parts.specs.Parts.{Tok, byte, comp, elem, elements, onFirst, onValue}
 use Rattle.parts.specs.Written.{Writes, none, as-is, component, element}
 use Rattle.parts.specs.Written as written
-use Rattle.rewrite.specs.Plain.{trim, Values, trimmed, isReleased, plainByte, plainValue, behind, joined, plainElement, plainElements, begun, plainSegment}
+use Rattle.parts.specs.Trimmed.{trim, Values, trimmed}
+use Rattle.rewrite.specs.Plain.{isReleased, plainByte, plainValue, behind, joined, plainElement, plainElements, begun, plainSegment}
 
 -- ---- the tokens of values
 abbrev pub elementTokens : List (List ℕ) → List Tok

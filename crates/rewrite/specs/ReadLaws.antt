@@ -3,19 +3,20 @@ use Prim.Native.Nat.{ℕ, suc, _+_}
 use native.Mathlib.Omega.{arith}
 use mathlib.Core.Path.{_≡_, refl, sym, _∙_, ap}
 use mathlib.Core.List.{List, [], _∷_, _++_, map, append-assoc}
-use mathlib.Core.Bool.{Bool, true, false, not}
+use mathlib.Core.Bool.{Bool, true, false}
 use lib.ListN.{length, drop, length-append}
 use lib.Seq.{drop-append-seam}
 use Rattle.service.specs.declared.Service.{Service}
 use Rattle.service.specs.Service.{plainService}
 use Rattle.segments.specs.declared.Class.the-variants.{Term}
 use Rattle.segments.specs.Classes.{if, classOf, isBreak}
-use Rattle.segments.specs.SegmentList.{Piece, finished, gap, first, inside, mode, ended, emit, pieces, segmentsFrom}
-use Rattle.segments.specs.ResyncLaws.{gap-start}
+use Rattle.segments.specs.SegmentList.{Piece, finished, gap, inside, pieces, segmentsFrom}
+use Rattle.segments.specs.ResyncLaws.{gap-start, unbroken, gap-first, gap-inside}
 use Rattle.parts.specs.Parts.{Tok, lex, elements}
 use Rattle.parts.specs.Written.{Writes, none, as-is, behind, component, element}
 use Rattle.parts.specs.ReleaseLaws.{writes-lex}
-use Rattle.rewrite.specs.Plain.{Values, trimmed, valuesIn, plainElements, begun, plainSegment, plain}
+use Rattle.parts.specs.Trimmed.{Values, trimmed, valuesIn}
+use Rattle.rewrite.specs.Plain.{plainElements, begun, plainSegment, plain}
 use Rattle.rewrite.specs.PrintLaws.{tokensOf, term-plain, writes-segment, tokens-values}
 
 -- ---- bytes that write tokens, and a terminator: one segment
@@ -28,28 +29,7 @@ module _ (v : Service) (e : ℕ) (c : classOf v e ≡ Term) (z : List ℕ) where
   writes-inside t w (component b t′ w′ d x) st i n q = let g : suc i + length w′ ≡ n = omega arith in rw d (writes-inside t′ w′ x st (suc i) n g)
   writes-inside t w (element b t′ w′ d x) st i n q = let g : suc i + length w′ ≡ n = omega arith in rw d (writes-inside t′ w′ x st (suc i) n g)
 
--- ---- a text that begins with no break
-abbrev pub unbroken : List ℕ → Bool
-unbroken [] = true
-unbroken (b ∷ l) = not (isBreak b)
-
--- is read alike between segments, at a segment's first byte, and inside one that begins there
-module _ (v : Service) (i : ℕ) where
-  gap-by : (b : ℕ) (l : List ℕ) (x : Bool) → not x ≡ true
-      → emit (if x false (ended (classOf v b))) i i (pieces v (if x gap (mode (classOf v b))) i (suc i) l) ≡ emit (ended (classOf v b)) i i (pieces v (mode (classOf v b)) i (suc i) l)
-  gap-by b l true q = absurd (let n : _≡_ {A = ℕ} 0 1 = cc in omega arith)
-  gap-by b l false q = refl
-
-  pub gap-first : (st : ℕ) (l : List ℕ) → unbroken l ≡ true → pieces v gap st i l ≡ pieces v first i i l
-  unfolding pieces
-  gap-first st [] q = refl
-  gap-first st (b ∷ l) q = gap-by b l (isBreak b) q
-
-  pub gap-inside : (st b : ℕ) (l : List ℕ) → unbroken (b ∷ l) ≡ true → pieces v gap st i (b ∷ l) ≡ pieces v inside i i (b ∷ l)
-  unfolding pieces
-  gap-inside st b l q = gap-by b l (isBreak b) q
-
--- plain bytes begin with none
+-- ---- plain bytes begin with none
 begun-unbroken : (l z : List ℕ) → unbroken (begun l ++ 39 ∷ z) ≡ true
 begun-unbroken [] z = refl
 begun-unbroken (b ∷ l) z = go (isBreak b) refl

@@ -14,19 +14,19 @@ use Rattle.service.specs.declared.Service.{Service}
 use Rattle.service.specs.Service.{plainService}
 use Rattle.segments.specs.SegmentList.{Piece, segmentsFrom}
 use Rattle.parts.specs.Parts.{valueAt}
-use Rattle.values.specs.Numbers.{Bytes}
+use Rattle.parts.specs.Trimmed.{Values, trimmed, valuesAt, valuesFrom}
+use Rattle.parts.specs.TrimLaws.{same-at, same-trimmed, values-trimmed}
+use Rattle.values.specs.Exactly.{Exactly}
 use Rattle.interchange.specs.declared.Opening.{Opening}
 use Rattle.interchange.specs.declared.Opening.the-variants.{Opens, Refused}
 use Rattle.interchange.specs.Envelope.{refusal, openingOf, afterFirst, lastStart, bodyOf, messageCount, strayCount, closedBy, closingBy, closingOf}
-use Rattle.interchange.specs.TagLaws.{Exactly}
+use Rattle.interchange.specs.Alike.{Alike, none, both}
+use Rattle.interchange.specs.AlikeLaws.{same-count, same-strays, same-last, same-end, same-number}
 use Rattle.rewrite.specs.declared.Rewriting.{Rewriting}
 use Rattle.rewrite.specs.declared.Rewriting.the-variants.{Written}
 use Rattle.rewrite.specs.declared.Rewriting.the-variants as rewriting
-use Rattle.rewrite.specs.Plain.{Values, trimmed, valuesAt, valuesFrom, valuesBy, valuesOf, plain, rewritten, fits, rewritingBy, rewritingOf, roomBy, roomAfter}
-use Rattle.rewrite.specs.TrimLaws.{same-at, same-trimmed}
+use Rattle.rewrite.specs.Plain.{valuesBy, valuesOf, plain, rewritten, fits, rewritingBy, rewritingOf, roomBy, roomAfter}
 use Rattle.rewrite.specs.ReadLaws.{read-back}
-use Rattle.rewrite.specs.Alike.{Alike, none, both}
-use Rattle.rewrite.specs.AlikeLaws.{values-trimmed, same-count, same-strays, same-last, same-end, same-number}
 use Rattle.rewrite.specs.OpenLaws.{same-values, alike-rewritten, first-values, reopens}
 
 -- ---- equal values exactly when equal bytes
@@ -51,10 +51,10 @@ alike-rest : (v : Service) (s : List ℕ) (v′ : Service) (s′ : List ℕ) {l 
 alike-rest v s v′ s′ none = none
 alike-rest v s v′ s′ (both a t a′ t′ l l′ q w) = w
 
-module _ (s : List ℕ) (v : Service) (first : ℕ) (o : openingOf s ≡ Opens v first) (w : Bytes s) (h : length (rewritten s) ≤ 1048576) where
+module _ (s : List ℕ) (v : Service) (first : ℕ) (o : openingOf s ≡ Opens v first) (h : length (rewritten s) ≤ 1048576) where
   -- it opens again, with the default characters
   pub opens-again : openingOf (rewritten s) ≡ Opens plainService 0
-  opens-again = reopens s v first o w h
+  opens-again = reopens s v first o h
 
   -- each value is kept
   pub values-kept : valuesOf (rewritten s) ≡ valuesOf s
@@ -131,17 +131,17 @@ unfolding rewritingOf
 written-so s room n e = so-opening s room n (openingOf s) refl e
 
 -- and so the plain bytes, rewritten into a room as long, give the same answer and the same bytes
-module _ (s : List ℕ) (w : Bytes s) (n : ℕ) (old : List ℕ) (e : rewritingOf s (length old) ≡ Written n) where
+module _ (s : List ℕ) (n : ℕ) (old : List ℕ) (e : rewritingOf s (length old) ≡ Written n) where
   answer-again : rewritingOf (rewritten s) (length old) ≡ rewritingOf s (length old)
   unfolding rewritingOf
   answer-again =
       let f = written-so s (length old) n e in
-      ap (λ (k : Opening). rewritingBy k (length (rewritten (rewritten s))) (length old)) (opens-again s (f .characters) (f .first) (f .opens) w (f .short))
-      ∙ ap (λ (r : List ℕ). rewritingBy (Opens plainService 0) (length r) (length old)) (twice s (f .characters) (f .first) (f .opens) w (f .short))
+      ap (λ (k : Opening). rewritingBy k (length (rewritten (rewritten s))) (length old)) (opens-again s (f .characters) (f .first) (f .opens) (f .short))
+      ∙ ap (λ (r : List ℕ). rewritingBy (Opens plainService 0) (length r) (length old)) (twice s (f .characters) (f .first) (f .opens) (f .short))
       ∙ sym (ap (λ (k : Opening). rewritingBy k (length (rewritten s)) (length old)) (f .opens))
 
   pub rewrites-again : (rewritingOf (rewritten s) (length old) ≡ Written n) × (roomAfter (rewritten s) old ≡ roomAfter s old)
   unfolding roomAfter
   rewrites-again =
       let f = written-so s (length old) n e in
-      (answer-again ∙ e, ap₂ (λ (k : Rewriting) (r : List ℕ). roomBy k r old) answer-again (twice s (f .characters) (f .first) (f .opens) w (f .short)))
+      (answer-again ∙ e, ap₂ (λ (k : Rewriting) (r : List ℕ). roomBy k r old) answer-again (twice s (f .characters) (f .first) (f .opens) (f .short)))

@@ -1,15 +1,16 @@
 -- The answer of rewriting and the room after it, by the way it went. Assumes nothing.
 use Prim.Native.Nat.{ℕ, _≤_, _<_}
 use native.Mathlib.Omega.{arith}
-use mathlib.Core.Path.{_≡_, sym, _∙_, ap}
+use mathlib.Core.Path.{_≡_, refl, sym, _∙_, ap}
 use mathlib.Core.List.{List}
 use mathlib.Core.Bool.{Bool, true, false}
 use lib.ListN.{length}
 use lib.Dec.{leb}
 use borrow.Author.Tests.{leb-true, le-leb, lt-leb}
 use Rattle.service.specs.declared.Service.{Service}
-use Rattle.service.specs.ServiceLaws.{and-right}
+use Rattle.service.specs.ServiceLaws.{and-left, and-right}
 use Rattle.segments.specs.Classes.{if}
+use Rattle.parts.specs.Trimmed.{valuesFrom}
 use Rattle.interchange.specs.declared.Refusal.{Refusal}
 use Rattle.interchange.specs.declared.Opening.{Opening}
 use Rattle.interchange.specs.declared.Opening.the-variants as opening
@@ -17,9 +18,9 @@ use Rattle.interchange.specs.Envelope.{refusal, openingOf}
 use Rattle.lent.specs.Over.{over}
 use Rattle.rewrite.specs.declared.Rewriting.{Rewriting}
 use Rattle.rewrite.specs.declared.Rewriting.the-variants.{Written, Refused}
-use Rattle.rewrite.specs.Plain.{valuesFrom, valuesOf, plain, rewritten, fits, fitting, rewritingBy, rewritingOf, roomBy, roomAfter}
-use Rattle.rewrite.specs.Puts.{Puts}
-use Rattle.rewrite.specs.PutsLaws.{puts-over, puts-length}
+use Rattle.rewrite.specs.Plain.{valuesOf, plain, rewritten, fits, fitting, rewritingBy, rewritingOf, roomBy, roomAfter}
+use Rattle.lent.specs.Puts.{Puts}
+use Rattle.lent.specs.PutsLaws.{puts-over, puts-length}
 
 -- ---- the tests of the code
 pub fits-long : (n room : ℕ) → 1048576 < n → false ≡ fits n room
@@ -83,3 +84,19 @@ module _ (s : List ℕ) (o : Opening) (q : o ≡ openingOf s) (v : Service) (fir
           puts-over w (plain (valuesFrom v s first)) old new p room-short
           ∙ ap (λ (l : List ℕ). over l old) (sym rewritten-is)
           ∙ sym (ap (λ (k : Rewriting). roomBy k (rewritten s) old) answer-so)
+
+-- ---- what is written is at most 1,048,576 bytes
+small-by : (n room k : ℕ) (b : Bool) → b ≡ fits n room → if b (Written n) (Refused (refusal 9)) ≡ Written k → k ≤ 1048576
+unfolding fits
+small-by n room k true f e =
+    let p : n ≡ k = cc in
+    let h = leb-true n 1048576 (and-left (leb n 1048576) (leb n room) (sym f)) in omega arith
+small-by n room k false f e = absurd (let z : _≡_ {A = ℕ} 0 1 = cc in omega arith)
+
+small-in : (o : Opening) (n room k : ℕ) → rewritingBy o n room ≡ Written k → k ≤ 1048576
+small-in (opening.Opens v first) n room k e = small-by n room k (fits n room) refl e
+small-in (opening.Refused f) n room k e = absurd (let z : _≡_ {A = ℕ} 0 1 = cc in omega arith)
+
+pub rewriting-small : (s : List ℕ) (room n : ℕ) → rewritingOf s room ≡ Written n → n ≤ 1048576
+unfolding rewritingOf
+rewriting-small s room n e = small-in (openingOf s) (length (rewritten s)) room n e

@@ -16,11 +16,12 @@ use Rattle.parts.specs.declared.Token.the-variants as token
 use Rattle.parts.specs.Parts.{lex}
 use Rattle.parts.specs.Lex.{tokenAt}
 use Rattle.parts.specs.LexLaws.{reads-comp, reads-elem}
-use Rattle.rewrite.specs.Plain.{plainByte, valuesAt, valuesFrom, plainSegment, plain}
+use Rattle.parts.specs.Trimmed.{valuesAt, valuesFrom}
+use Rattle.rewrite.specs.Plain.{plainByte, plainSegment, plain}
 use Rattle.rewrite.specs.Flat.{flat, leads, lead}
 use Rattle.rewrite.specs.FlatLaws.{flat-segment}
-use Rattle.rewrite.specs.Puts.{Puts, Putting}
-use Rattle.rewrite.specs.PutsLaws.{puts-none, puts-more, puts-same, putting-start, putting-more, putting-done, putting-same}
+use Rattle.lent.specs.Puts.{Puts, Putting}
+use Rattle.lent.specs.PutsLaws.{puts-none, puts-more, puts-same, putting-start, putting-more, putting-done, putting-same}
 use Rattle.rewrite.specs.LengthLaws.{flat-byte, flat-comp, flat-elem, flat-stop, rest-finished, rest-unfinished, rest-nothing}
 
 -- ---- a release before a CR or LF that begins the segment

@@ -5,9 +5,10 @@ ghost use mathlib.Core.Bool.{Bool, true, false};
 ghost use mathlib.Core.List.{List, [], _∷_, _++_};
 ghost use lib.ListN.{length, drop, replicate};
 ghost use Rattle.parts.specs.Lex.{lex};
-ghost use Rattle.rewrite.specs.Plain.{isReleased, plainByte, valuesAt, valuesFrom, plainSegment, plain, fits, rewritingOf, roomAfter};
+ghost use Rattle.parts.specs.Trimmed.{valuesAt, valuesFrom};
+ghost use Rattle.rewrite.specs.Plain.{isReleased, plainByte, plainSegment, plain, fits, rewritingOf, roomAfter};
 ghost use Rattle.rewrite.specs.Flat.{flat, leads, lead};
-ghost use Rattle.rewrite.specs.Puts.{Puts};
+ghost use Rattle.lent.specs.Puts.{Puts};
 use interchange::Opening;
 use interchange::Refusal;
 use parts::Token;
@@ -137,17 +138,6 @@ fn total_length(s: &[u8], at: usize, v: Service) -> usize
     }
 }
 
-// Puts a byte at `j`, and gives the place past it.
-fn put(out: &mut [u8], j: usize, b: u8) -> usize
-    ensures { λ r. ⌜ Puts j (b ∷ []) (now (out .entry)) (now (out .exit)) r ⌝ }
-{
-    if j < out.len() {
-        out[j] = b;
-        return j + 1;
-    }
-    j
-}
-
 // Puts a byte `n` times from `j` on, and gives the place past it.
 fn put_times(out: &mut [u8], j: usize, b: u8, n: usize) -> usize
     ensures { λ r. ⌜ Puts j (replicate n b) (now (out .entry)) (now (out .exit)) r ⌝ }
@@ -155,7 +145,7 @@ fn put_times(out: &mut [u8], j: usize, b: u8, n: usize) -> usize
     let mut k = j;
     let mut left = n;
     while 0 < left {
-        k = put(out, k, b);
+        k = lent::put(out, k, b);
         left -= 1;
     }
     k
@@ -166,10 +156,10 @@ fn put_value_byte(out: &mut [u8], j: usize, b: u8) -> usize
     ensures { λ r. ⌜ Puts j (plainByte b) (now (out .entry)) (now (out .exit)) r ⌝ }
 {
     if is_released(b) {
-        let k = put(out, j, b'?');
-        return put(out, k, b);
+        let k = lent::put(out, j, b'?');
+        return lent::put(out, k, b);
     }
-    put(out, j, b)
+    lent::put(out, j, b)
 }
 
 // Puts the release before a CR or LF that begins the segment at `at`, if it does, and gives the place past it.
@@ -177,7 +167,7 @@ fn put_lead(s: &[u8], at: usize, v: Service, out: &mut [u8], j: usize) -> usize
     ensures { λ r. ⌜ Puts j (lead (lex v false (drop at (now (s .entry))))) (now (out .entry)) (now (out .exit)) r ⌝ }
 {
     if begins_with_break(s, at, v) {
-        return put(out, j, b'?');
+        return lent::put(out, j, b'?');
     }
     j
 }
@@ -223,7 +213,7 @@ fn put_segment(s: &[u8], at: usize, v: Service, out: &mut [u8], from: usize) -> 
 {
     let j = put_lead(s, at, v, out, from);
     let k = put_flat(s, at, v, out, j);
-    put(out, k, b'\'')
+    lent::put(out, k, b'\'')
 }
 
 // Puts the segments from `at` on, and gives the place past them.

@@ -13,18 +13,22 @@ use Rattle.faults.specs.declared.Fault.the-variants as fault
 use Rattle.faults.specs.Firsts.{numberFirst}
 use Rattle.chart.specs.declared.Cursor.{Cursor}
 use Rattle.chart.specs.Cursor.{CursorIs, Stepped}
-use Rattle.chart.specs.Tags.{startsFrom, tagsFrom, tagsOf}
-use Rattle.chart.specs.Next.{nextRow, rowsOf}
+use Rattle.chart.specs.Table.{Table}
+use Rattle.chart.specs.Paymul.{PAYMUL}
+use Rattle.chart.specs.Tags.{tagsFrom, tagsOf}
+use Rattle.segments.specs.SegmentList.{startsFrom}
+use Rattle.chart.specs.Next.{nextRow}
 use Rattle.segments.specs.declared.Segment.{Segment}
 use Rattle.segments.specs.declared.Segment.the-variants.{Finished, Unfinished, Nothing}
 use Rattle.segments.specs.Segments.{segmentAt}
 use Rattle.parts.specs.Parts.{lex, elements, valueAt}
 use Rattle.values.specs.Values.{valueIn}
 use Rattle.chart.specs.Machine.{rowsBy}
-use Rattle.chart.specs.CursorLaws.{something}
-use Rattle.chart.specs.TagsLaws.{starts-finished, starts-unfinished, tags-past, tags-finished, tags-unfinished}
-use Rattle.message.specs.Segs.{Seg, segAt, segsFrom, segsOf, LIN, is}
-use Rattle.message.specs.Rules.{reference, count, paymul}
+use Rattle.chart.specs.TagsLaws.{tags-past, tags-finished, tags-unfinished}
+use Rattle.segments.specs.SegmentsLaws.{something}
+use Rattle.segments.specs.StartsLaws.{starts-finished, starts-unfinished}
+use Rattle.message.specs.Segs.{Seg, segAt, segsFrom}
+use Rattle.message.specs.Rules.{reference, paymulOf}
 use Rattle.message.specs.Faults.{rank, tellAll, leastOf}
 use Rattle.message.specs.Run.{run, firstOf}
 use Rattle.message.specs.FaultLaws.{Rising, byRules, by-rules}
@@ -36,7 +40,8 @@ use Rattle.numbering.specs.declared.Numbering.{Numbering}
 use Rattle.numbering.specs.Steps.{numberingStart, numberingStep}
 use Rattle.numbering.specs.Agree.{agree20, agree21, agree29}
 use Rattle.amounts.specs.declared.Amounts.{Amounts}
-use Rattle.amounts.specs.Steps.{Sums, sumsOf, sumsStart, sumsStep, sumsClose, heldOf, noOrder}
+use Rattle.amounts.specs.Steps.{Sums, sumsOf, sumsStart, sumsStep, sumsClose, heldOf, noOrder, amountsClose}
+use Rattle.amounts.specs.StepLaws.{close-sums}
 use Rattle.amounts.specs.Agree.{agree22, agree23, agree24, agree25, agree26}
 use Rattle.parties.specs.declared.Parties.{Parties}
 use Rattle.parties.specs.Steps.{partiesStart, partiesStep, partiesClose}
@@ -45,6 +50,7 @@ use Rattle.details.specs.declared.Details.{Details}
 use Rattle.details.specs.Steps.{detailsStart, detailsStep, detailsClose}
 use Rattle.details.specs.Agree.{agree28}
 use Rattle.rules.specs.declared.State.{State}
+use Rattle.rules.specs.Placed.{placedOn}
 use Rattle.rules.specs.Steps.{All, none, allStart, stateOf, allStep, trailerFirst, numbersFirst, amountsFirst}
 
 pub start-by : (t : Trailer) (n : Numbering) (a : Amounts) (p : Parties) (d : Details) → t ≡ trailerStart → n ≡ numberingStart → a ≡ sumsStart → p ≡ partiesStart → d ≡ detailsStart → record { trailer = t; numbering = n; amounts = a; parties = p; details = d } ≡ allStart
@@ -58,26 +64,26 @@ step-by v m k o st s t n a p d h0 h1 h2 h3 h4 =
     rw (h0, h1, h3, h4) (ap (λ x. record { trailer = trailerStep k (valueIn v 0 m 1 0) (st .trailer) s; numbering = numberingStep o (st .numbering) s; amounts = x; parties = partiesStep (st .parties) s; details = detailsStep (st .details) s }) h2)
 
 -- ---- the loop: nth segments are passed
-pub record Judging (v : Service) (m : List ℕ) (k o : ℕ) (st : State) (row nth : ℕ) (c : Cursor) (at : ℕ) : Type 0 where
-  pub runs : Runs (allStep v m k o) (run (allStep v m k o) (stateOf v m allStart) (segsOf v m (rowsOf (tagsOf v m)))) v m nth row c (stateOf v m st)
+pub record Judging (t : Table) (v : Service) (m : List ℕ) (k o : ℕ) (st : State) (row nth : ℕ) (c : Cursor) (at : ℕ) : Type 0 where
+  pub runs : Runs (allStep v m k o) (run (allStep v m k o) (stateOf v m allStart) (placedOn t v m)) t v m nth row c (stateOf v m st)
   pub here : at ≡ c .at
 
-module _ (v : Service) (m : List ℕ) (k o : ℕ) where
-  pub judging-first : (st : State) → st ≡ allStart → (c : Cursor) → CursorIs v m 0 c → Judging v m k o st 0 0 c (c .at)
-  judging-first st e c h = rw e (record { runs = runs-first (allStep v m k o) v m (stateOf v m allStart) c h; here = refl })
+module _ (t : Table) (v : Service) (m : List ℕ) (k o : ℕ) where
+  pub judging-first : (st : State) → st ≡ allStart → (c : Cursor) → CursorIs v m 0 c → Judging t v m k o st 0 0 c (c .at)
+  judging-first st e c h = rw e (record { runs = runs-first (allStep v m k o) t v m (stateOf v m allStart) c h; here = refl })
 
-  module _ (st : State) (row nth : ℕ) (c : Cursor) (at : ℕ) (j : Judging v m k o st row nth c at) where
+  module _ (st : State) (row nth : ℕ) (c : Cursor) (at : ℕ) (j : Judging t v m k o st row nth c at) where
     pub judging-fits : at < length m → length m < 2 ^ 64 → Fits w64 (nth + 1)
-    judging-fits h g = let e = j .here in let l : c .at < length m = omega arith in runs-fits (allStep v m k o) v m _ nth row c (stateOf v m st) (j .runs) l g
+    judging-fits h g = let e = j .here in let l : c .at < length m = omega arith in runs-fits (allStep v m k o) t v m _ nth row c (stateOf v m st) (j .runs) l g
 
-    pub judging-next : at < length m → (n : ℕ) → n ≡ nth + 1 → (x : ℕ) → x ≡ nextRow row (c .tag) → (d : Cursor) → Stepped v m c d → (u : State) → stateOf v m u ≡ allStep v m k o (stateOf v m st) (segAt v m n x at) → Judging v m k o u x n d (d .at)
+    pub judging-next : at < length m → (n : ℕ) → n ≡ nth + 1 → (x : ℕ) → x ≡ nextRow t row (c .tag) → (d : Cursor) → Stepped v m c d → (u : State) → stateOf v m u ≡ allStep v m k o (stateOf v m st) (segAt v m n x at) → Judging t v m k o u x n d (d .at)
     judging-next h n q x e d s u p =
         let w = j .here in
         let l : c .at < length m = omega arith in
-        record { runs = runs-next (allStep v m k o) v m _ nth row c (stateOf v m st) (j .runs) l n q x e d s (stateOf v m u) (p ∙ rw w); here = refl }
+        record { runs = runs-next (allStep v m k o) t v m _ nth row c (stateOf v m st) (j .runs) l n q x e d s (stateOf v m u) (p ∙ rw w); here = refl }
 
-    pub judging-end : length m ≤ at → stateOf v m st ≡ run (allStep v m k o) (stateOf v m allStart) (segsOf v m (rowsOf (tagsOf v m)))
-    judging-end h = let w = j .here in let l : length m ≤ c .at = omega arith in runs-end (allStep v m k o) v m _ nth row c (stateOf v m st) (j .runs) l
+    pub judging-end : length m ≤ at → stateOf v m st ≡ run (allStep v m k o) (stateOf v m allStart) (placedOn t v m)
+    judging-end h = let w = j .here in let l : length m ≤ c .at = omega arith in runs-end (allStep v m k o) t v m _ nth row c (stateOf v m st) (j .runs) l
 
 -- ---- the run of all is each rule's run
 parts : (v : Service) (m : List ℕ) (k n : ℕ) (st : All) (ss : List Seg)
@@ -88,9 +94,9 @@ parts v m k n st [] = refl
 parts v m k n st (s ∷ ss) = parts v m k n (allStep v m k n st s) ss
 
 -- the rules stand in the order of their ranks
-rising : (m : List Seg) → Rising 0 (paymul m)
+rising : (k n : ℕ) (m : List Seg) → Rising 0 (paymulOf k n m)
 unfolding rank
-rising m = omega arith
+rising k n m = omega arith
 
 pub trailer-by : (t : Trailer) (o b c : Fault) → b ≡ numberFirst 18 (t .first18) o → c ≡ numberFirst 17 (t .first17) b → c ≡ trailerFirst t o
 trailer-by t o b c h1 h2 = rw (h2, h1)
@@ -102,20 +108,20 @@ pub amounts-by : (a : Amounts) (o b c d e f : Fault) → b ≡ numberFirst 26 (a
 amounts-by a o b c d e f h1 h2 h3 h4 h5 = rw (h5, h4, h3, h2, h1)
 
 -- ---- the first segment begins the message
-none-here : (v : Service) (m : List ℕ) (n prev : ℕ) → (0 < length m → ⊥) → valueIn v 0 m 1 0 ≡ reference (segsFrom v m n (rowsBy nextRow prev (tagsFrom v m 0)) (startsFrom v m 0))
+none-here : (t : Table) (v : Service) (m : List ℕ) (n prev : ℕ) → (0 < length m → ⊥) → valueIn v 0 m 1 0 ≡ reference (segsFrom v m n (rowsBy (nextRow t) prev (tagsFrom v m 0)) (startsFrom v m 0))
 unfolding rowsBy segsFrom lex elements valueAt
-none-here v [] n prev h = rw (tags-past v [] 0 (omega arith))
-none-here v (b ∷ m) n prev h = absurd (h (omega arith))
+none-here t v [] n prev h = rw (tags-past v [] 0 (omega arith))
+none-here t v (b ∷ m) n prev h = absurd (h (omega arith))
 
-first-starts : (v : Service) (m : List ℕ) (n prev : ℕ) (k : Segment) → k ≡ segmentAt v 0 m → valueIn v 0 m 1 0 ≡ reference (segsFrom v m n (rowsBy nextRow prev (tagsFrom v m 0)) (startsFrom v m 0))
+first-starts : (t : Table) (v : Service) (m : List ℕ) (n prev : ℕ) (k : Segment) → k ≡ segmentAt v 0 m → valueIn v 0 m 1 0 ≡ reference (segsFrom v m n (rowsBy (nextRow t) prev (tagsFrom v m 0)) (startsFrom v m 0))
 unfolding rowsBy segsFrom
-first-starts v m n prev (Finished t j) e = rw (tags-finished v m 0 (Finished t j) e t j refl, starts-finished v m 0 (Finished t j) e t j refl)
-first-starts v m n prev Unfinished e = rw (tags-unfinished v m 0 Unfinished e refl, starts-unfinished v m 0 Unfinished e refl)
-first-starts v m n prev Nothing e = none-here v m n prev (λ h. something v m 0 h (sym e))
+first-starts t v m n prev (Finished f j) e = rw (tags-finished v m 0 (Finished f j) e f j refl, starts-finished v m 0 (Finished f j) e f j refl)
+first-starts t v m n prev Unfinished e = rw (tags-unfinished v m 0 Unfinished e refl, starts-unfinished v m 0 Unfinished e refl)
+first-starts t v m n prev Nothing e = none-here t v m n prev (λ h. something v m 0 h (sym e))
 
-module _ (v : Service) (m : List ℕ) (k o : ℕ) (st : State) (q : stateOf v m st ≡ run (allStep v m k o) (stateOf v m allStart) (segsOf v m (rowsOf (tagsOf v m)))) where
+module _ (t : Table) (v : Service) (m : List ℕ) (k o : ℕ) (st : State) (q : stateOf v m st ≡ run (allStep v m k o) (stateOf v m allStart) (placedOn t v m)) where
   abbrev segs : List Seg
-  segs = segsOf v m (rowsOf (tagsOf v m))
+  segs = placedOn t v m
 
   all : stateOf v m st ≡ record { trailer = run (trailerStep k (valueIn v 0 m 1 0)) trailerStart segs; numbering = run (numberingStep o) numberingStart segs; amounts = run (sumsStep (none v m)) (sumsOf v m sumsStart) segs; parties = run partiesStep partiesStart segs; details = run detailsStep detailsStart segs }
   all = q ∙ parts v m k o (stateOf v m allStart) segs
@@ -135,13 +141,13 @@ module _ (v : Service) (m : List ℕ) (k o : ℕ) (st : State) (q : stateOf v m 
   is-amounts : sumsOf v m (st .amounts) ≡ run (sumsStep (none v m)) (sumsOf v m sumsStart) segs
   is-amounts = ap (λ (x : All). x .amounts) all
 
-  module _ (a : Amounts) (h : sumsOf v m a ≡ sumsClose v m (sumsOf v m (st .amounts))) where
+  module _ (a : Amounts) (h : a ≡ amountsClose v m (st .amounts)) where
     closed : sumsOf v m a ≡ sumsClose v m (run (sumsStep (none v m)) (sumsOf v m sumsStart) segs)
-    closed = h ∙ ap (sumsClose v m) is-amounts
+    closed = close-sums v m (st .amounts) a h ∙ ap (sumsClose v m) is-amounts
 
     -- the first rule with a place is the least of all that is told
-    judged-by : k ≡ length segs → o ≡ count (is LIN) segs → trailerFirst (st .trailer) (numbersFirst (st .numbering) (amountsFirst a (numberFirst 27 (partiesClose (st .parties)) (numberFirst 28 (detailsClose (st .details)) (numberFirst 29 (st .numbering .first29) fault.None))))) ≡ leastOf (tellAll (paymul segs))
-    judged-by h e =
+    judged-by : trailerFirst (st .trailer) (numbersFirst (st .numbering) (amountsFirst a (numberFirst 27 (partiesClose (st .parties)) (numberFirst 28 (detailsClose (st .details)) (numberFirst 29 (st .numbering .first29) fault.None))))) ≡ leastOf (tellAll (paymulOf k o segs))
+    judged-by =
         rw (
           ap (λ (x : Sums). x .first22) closed ∙ agree22 (none v m) (heldOf v m noOrder) segs,
           ap (λ (x : Sums). x .first23) closed ∙ agree23 (none v m) (heldOf v m noOrder) segs,
@@ -149,19 +155,23 @@ module _ (v : Service) (m : List ℕ) (k o : ℕ) (st : State) (q : stateOf v m 
           ap (λ (x : Sums). x .first25) closed ∙ agree25 (none v m) (heldOf v m noOrder) segs,
           ap (λ (x : Sums). x .first26) closed ∙ agree26 (none v m) (heldOf v m noOrder) segs,
           is-trailer,
-          agree17 k (valueIn v 0 m 1 0) segs h,
-          agree18 k (valueIn v 0 m 1 0) segs (first-starts v m 1 0 (segmentAt v 0 m) refl),
+          agree17 k (valueIn v 0 m 1 0) segs,
+          agree18 k (valueIn v 0 m 1 0) segs (first-starts t v m 1 0 (segmentAt v 0 m) refl),
           is-numbering,
           agree20 o segs,
           agree21 o segs,
-          agree29 o segs e,
+          agree29 o segs,
           is-parties,
           agree27 segs,
           is-details,
           agree28 segs,
         )
-        (sym (by-rules 0 (paymul segs) (rising segs)))
+        (sym (by-rules 0 (paymulOf k o segs) (rising k o segs)))
 
     pub judged : (p d : First) (g29 g28 g27 g22 g20 r : Fault) → p ≡ partiesClose (st .parties) → d ≡ detailsClose (st .details) → g29 ≡ numberFirst 29 (st .numbering .first29) fault.None → g28 ≡ numberFirst 28 d g29 → g27 ≡ numberFirst 27 p g28
-        → g22 ≡ amountsFirst a g27 → g20 ≡ numbersFirst (st .numbering) g22 → r ≡ trailerFirst (st .trailer) g20 → k ≡ length (segsOf v m (rowsOf (tagsOf v m))) → o ≡ count (is LIN) (segsOf v m (rowsOf (tagsOf v m))) → r ≡ leastOf (tellAll (paymul (segsOf v m (rowsOf (tagsOf v m)))))
-    judged p d g29 g28 g27 g22 g20 r h1 h2 h3 h4 h5 h6 h7 h8 h e = rw (h8, h7, h6, h5, h4, h3, h1, h2) (judged-by h e)
+        → g22 ≡ amountsFirst a g27 → g20 ≡ numbersFirst (st .numbering) g22 → r ≡ trailerFirst (st .trailer) g20 → r ≡ leastOf (tellAll (paymulOf k o (placedOn t v m)))
+    judged p d g29 g28 g27 g22 g20 r h1 h2 h3 h4 h5 h6 h7 h8 = rw (h8, h7, h6, h5, h4, h3, h1, h2) judged-by
+
+-- the table is PAYMUL's
+pub judged-paymul : (t : Table) → t ≡ PAYMUL → (v : Service) (m : List ℕ) (k o : ℕ) (r : Fault) → r ≡ leastOf (tellAll (paymulOf k o (placedOn t v m))) → r ≡ leastOf (tellAll (paymulOf k o (placedOn PAYMUL v m)))
+judged-paymul t e v m k o r h = h ∙ ap (λ (u : Table). leastOf (tellAll (paymulOf k o (placedOn u v m)))) e

@@ -1,13 +1,12 @@
 // What must hold of a placed message: one loop over its segments and their rows, and the rule of the lowest number that is broken.
 ghost use Prim.Native.Nat.{_+_};
 ghost use mathlib.Core.Path.{_≡_};
-ghost use lib.ListN.{length};
-ghost use Rattle.chart.specs.Tags.{tagsOf};
-ghost use Rattle.chart.specs.Next.{rowsOf};
-ghost use Rattle.message.specs.Segs.{segAt, segsOf, LIN, is};
-ghost use Rattle.message.specs.Rules.{count, paymul};
+ghost use Rattle.chart.specs.Paymul.{PAYMUL};
+ghost use Rattle.message.specs.Segs.{segAt};
+ghost use Rattle.message.specs.Rules.{paymulOf};
 ghost use Rattle.message.specs.Faults.{tellAll, leastOf};
 ghost use Rattle.message.specs.Run.{run as runOf};
+ghost use Rattle.rules.specs.Placed.{placedOn};
 ghost use Rattle.rules.specs.Steps.{stateOf, allStart, allStep, trailerFirst, numbersFirst, amountsFirst};
 use amounts::Amounts;
 use chart::Cursor;
@@ -16,6 +15,7 @@ use faults::Fault;
 use numbering::Numbering;
 use parties::Parties;
 use service::Service;
+use table::COLUMNS;
 use trailer::Trailer;
 
 // The rules' states.
@@ -76,9 +76,9 @@ fn step(
     }
 }
 
-// The rules over the whole message.
-fn run(m: &[u8], v: Service, segments: u64, orders: u64) -> State
-    ensures { λ r. ⌜ stateOf v (now (m .entry)) r ≡ runOf (allStep v (now (m .entry)) segments orders) (stateOf v (now (m .entry)) allStart) (segsOf v (now (m .entry)) (rowsOf (tagsOf v (now (m .entry))))) ⌝ }
+// The rules over the whole message, its rows by a table.
+fn run(m: &[u8], v: Service, t: &[[u8; COLUMNS]], segments: u64, orders: u64) -> State
+    ensures { λ r. ⌜ stateOf v (now (m .entry)) r ≡ runOf (allStep v (now (m .entry)) segments orders) (stateOf v (now (m .entry)) allStart) (placedOn (now (t .entry)) v (now (m .entry))) ⌝ }
 {
     let mut st = start();
     let mut row: usize = 0;
@@ -87,7 +87,7 @@ fn run(m: &[u8], v: Service, segments: u64, orders: u64) -> State
     let mut at = c.at;
     while at < m.len() {
         let next = nth + 1;
-        row = chart::next_row(row, c.tag);
+        row = chart::next_row(t, row, c.tag);
         st = step(st, m, v, at, next, row, segments, orders);
         c = chart::step(m, v, c);
         at = c.at;
@@ -132,12 +132,12 @@ fn of_trailer(t: Trailer, other: Fault) -> Fault
     faults::before(17, f17, g18)
 }
 
-// The rule of the lowest number that is broken, and the first segment under it, in a message of so many segments and LIN segments.
-pub fn judge(m: &[u8], v: Service, segments: u64, orders: u64) -> Fault
-    ensures { λ r. ⌜ (segments ≡ length (segsOf v (now (m .entry)) (rowsOf (tagsOf v (now (m .entry))))) → orders ≡ count (is LIN) (segsOf v (now (m .entry)) (rowsOf (tagsOf v (now (m .entry))))) → r ≡ leastOf (tellAll (paymul (segsOf v (now (m .entry)) (rowsOf (tagsOf v (now (m .entry)))))))) ⌝ }
+// The rule of the lowest number that is broken, and the first segment under it, in a message of so many segments and LIN segments on a table.
+pub fn judge(m: &[u8], v: Service, t: &[[u8; COLUMNS]], segments: u64, orders: u64) -> Fault
+    ensures { λ r. ⌜ r ≡ leastOf (tellAll (paymulOf segments orders (placedOn (now (t .entry)) v (now (m .entry))))) ⌝ }
 {
-    let st = run(m, v, segments, orders);
-    let t = st.trailer;
+    let st = run(m, v, t, segments, orders);
+    let u = st.trailer;
     let n = st.numbering;
     let f29 = n.first29;
     let a = st.amounts;
@@ -148,5 +148,5 @@ pub fn judge(m: &[u8], v: Service, segments: u64, orders: u64) -> Fault
     let g27 = faults::before(27, parties::close(p), g28);
     let g22 = of_amounts(amounts::close(a, m, v), g27);
     let g20 = of_numbers(n, g22);
-    of_trailer(t, g20)
+    of_trailer(u, g20)
 }

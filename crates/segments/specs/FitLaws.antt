@@ -54,9 +54,3 @@ module _ (v : Service) (f : Fits v) where
   -- whatever stood before, after a terminator, bytes that leave nothing released, and a terminator, nothing is open
   pub fit-settles : (m : Mode) (p u : List ℕ) → relAfter v false u ≡ false → run v m (p ++ (v .terminator ∷ u) ++ v .terminator ∷ []) ≡ gap
   fit-settles = settles v fits-sound (v .terminator) term-class term-no-break
-
-  -- and what follows is read as by itself
-  pub fit-resync : (m : Mode) (p u rest : List ℕ) → relAfter v false u ≡ false
-      → let x : List ℕ = p ++ (v .terminator ∷ u) ++ v .terminator ∷ [] in
-      pieces v m 0 0 (x ++ rest) ≡ pieces v m 0 0 x ++ map (shift (length x)) (pieces v gap 0 0 rest)
-  fit-resync = resync v fits-sound (v .terminator) term-class term-no-break

@@ -8,6 +8,7 @@ pub mod Sync
 pub mod SyncLaws
 pub mod ResyncLaws
 pub mod ListLaws
+pub mod StartsLaws
 pub mod PartLaws
 pub mod FitLaws
 pub mod Ends

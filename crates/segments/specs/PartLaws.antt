@@ -96,17 +96,3 @@ module _ (v : Service) (p q z : List ℕ) (i t : ℕ) (h : i ≤ length q) where
       ap (endFrom v false (length p + i)) (part-drop p q z i h)
       ∙ end-shift v false (length p) i (drop i q ++ z)
       ∙ ap (endShift (length p)) (end-more v false i (drop i q) z t e)
-
-  -- and one whose terminator a part holds ends in the part
-  pub end-in-part : endFrom v false (length p + i) (drop (length p + i) (p ++ q ++ z)) ≡ At (length p + t) → t < length q → endFrom v false i (drop i q) ≡ At t
-  end-in-part e g = end-fewer v false i (drop i q) z t (back (endFrom v false i (drop i q ++ z)) shifted) (room q i h g)
-    where
-      shifted : endShift (length p) (endFrom v false i (drop i q ++ z)) ≡ At (length p + t)
-      shifted = sym (end-shift v false (length p) i (drop i q ++ z)) ∙ sym (ap (endFrom v false (length p + i)) (part-drop p q z i h)) ∙ e
-
-      back : (x : End) → endShift (length p) x ≡ At (length p + t) → x ≡ At t
-      back (At u) w = let n : length p + u ≡ length p + t = cc in let m : u ≡ t = omega arith in ap At m
-      back None w = absurd (let n : _≡_ {A = ℕ} 0 1 = cc in omega arith)
-
-      room : (q : List ℕ) (i : ℕ) → i ≤ length q → t < length q → t < i + length (drop i q)
-      room q i h g = let n = length-drop i q in omega arith

@@ -6,7 +6,7 @@ use native.Mathlib.Omega.{arith}
 use mathlib.Core.Path.{_≡_, refl, sym, _∙_, ap, subst}
 use mathlib.Core.Logic.{_⊎_, inl, inr, ⊎-elim}
 use mathlib.Core.List.{List, [], _∷_, _++_, map}
-use mathlib.Core.Bool.{Bool, true, false}
+use mathlib.Core.Bool.{Bool, true, false, not}
 use lib.ListN.{length}
 use lib.Dec.{T, eqb}
 use borrow.Author.Tests.{eqb-true}
@@ -14,7 +14,7 @@ use Rattle.service.specs.declared.Service.{Service}
 use Rattle.segments.specs.declared.Class.{Class}
 use Rattle.segments.specs.declared.Class.the-variants.{Plain, Comp, Elem, Rel, Term}
 use Rattle.segments.specs.Classes.{if, classOf, isBreak}
-use Rattle.segments.specs.SegmentList.{Piece, Mode, gap, first, inside, held, mode, after, ends, startIn, emit, left, pieces}
+use Rattle.segments.specs.SegmentList.{Piece, Mode, gap, first, inside, held, mode, ended, after, ends, startIn, emit, left, pieces}
 use Rattle.segments.specs.Sync.{run, shift, relBy, relNext, relAfter, Sound}
 
 -- ---- two texts one after the other
@@ -153,3 +153,24 @@ module _ (v : Service) (ok : Sound v) where
         let x : List ℕ = a ++ d ++ (t ∷ u) ++ t ∷ [] in
         let x′ : List ℕ = a ++ d′ ++ (t ∷ u) ++ t ∷ [] in
         (pieces v gap 0 0 x, pieces v gap 0 0 x′, length x, length x′, resync gap (a ++ d) u rest e, resync gap (a ++ d′) u rest e)
+
+-- ---- a text that begins with no break
+abbrev pub unbroken : List ℕ → Bool
+unbroken [] = true
+unbroken (b ∷ l) = not (isBreak b)
+
+-- is read alike between segments, at a segment's first byte, and inside one that begins there
+module _ (v : Service) (i : ℕ) where
+  gap-by : (b : ℕ) (l : List ℕ) (x : Bool) → not x ≡ true
+      → emit (if x false (ended (classOf v b))) i i (pieces v (if x gap (mode (classOf v b))) i (suc i) l) ≡ emit (ended (classOf v b)) i i (pieces v (mode (classOf v b)) i (suc i) l)
+  gap-by b l true q = absurd (let n : _≡_ {A = ℕ} 0 1 = cc in omega arith)
+  gap-by b l false q = refl
+
+  pub gap-first : (st : ℕ) (l : List ℕ) → unbroken l ≡ true → pieces v gap st i l ≡ pieces v first i i l
+  unfolding pieces
+  gap-first st [] q = refl
+  gap-first st (b ∷ l) q = gap-by b l (isBreak b) q
+
+  pub gap-inside : (st b : ℕ) (l : List ℕ) → unbroken (b ∷ l) ≡ true → pieces v gap st i (b ∷ l) ≡ pieces v inside i i (b ∷ l)
+  unfolding pieces
+  gap-inside st b l q = gap-by b l (isBreak b) q

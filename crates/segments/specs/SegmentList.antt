@@ -1,8 +1,8 @@
 -- The segments of a text as a list, as document 01, "Bytes to segments", says.
 use Prim.Native.Nat.{ℕ, suc, zero}
-use mathlib.Core.List.{List, [], _∷_}
+use mathlib.Core.List.{List, [], _∷_, map}
 use mathlib.Core.Bool.{Bool, true, false}
-use lib.ListN.{drop}
+use lib.ListN.{length, drop, getD}
 use Rattle.service.specs.declared.Service.{Service}
 use Rattle.segments.specs.declared.Class.{Class}
 use Rattle.segments.specs.declared.Class.the-variants.{Plain, Comp, Elem, Rel, Term}
@@ -83,6 +83,18 @@ segmentsFrom v s i = pieces v first i i (drop i s)
 -- the segments of a text from i, "read as though a terminator stood just before"
 abbrev pub segmentsAfter : Service → List ℕ → ℕ → List Piece
 segmentsAfter v s i = pieces v gap i i (drop i s)
+
+-- where the segments from the one that begins at i begin
+unfoldable pub startsFrom : Service → List ℕ → ℕ → List ℕ
+startsFrom v s i = map startOf (segmentsFrom v s i)
+
+-- of the whole text
+abbrev pub startsOf : Service → List ℕ → List ℕ
+startsOf v s = startsFrom v s 0
+
+-- where the segment begins before which j stand; the end, where there is none
+abbrev pub startAt : Service → List ℕ → ℕ → ℕ
+startAt v s j = getD (startsOf v s) j (length s)
 
 -- whether no segment of a list is unfinished
 unfoldable pub allFinished : List Piece → Bool

@@ -39,6 +39,15 @@ module _ (v : Service) (s : List ℕ) (i : ℕ) where
     pub segment-fits : (t : ℕ) → k ≡ At t → length s < 2 ^ 64 → Fits w64 (t + 1)
     segment-fits t e f = let w = rest-at v s i k c t e in omega arith
 
+-- a segment begins at every byte
+never-nothing : (s : List ℕ) (k : End) → segmentBy s k ≡ Nothing → ⊥
+never-nothing s (At t) e = let z : _≡_ {A = ℕ} 0 1 = cc in omega arith
+never-nothing s None e = let z : _≡_ {A = ℕ} 0 1 = cc in omega arith
+
+pub something : (v : Service) (s : List ℕ) (i : ℕ) → i < length s → segmentAt v i s ≡ Nothing → ⊥
+unfolding segmentAt
+something v s i h e = never-nothing s (endFrom v false i (drop i s)) (simp (lt-ltb _ _ h) at e)
+
 -- ---- the breaks end within the text
 high-by : (i p : ℕ) (l : List ℕ) (t u : Bool) → p ≤ suc i + length l → if t p (if u p i) ≤ i + suc (length l)
 high-by i p l true u h = omega arith
@@ -100,3 +109,25 @@ module _ (v : Service) (s : List ℕ) (i : ℕ) (k : Segment) (c : k ≡ segment
 
   pub segment-keep : (m : ℕ) → m ≤ i → m ≤ n
   segment-keep m h = let w = lies v s i k c t n e in omega arith
+
+-- ---- where the segment at a position ends
+finished-by : (s : List ℕ) (k : End) (t n : ℕ) → segmentBy s k ≡ Finished t n → k ≡ At t
+finished-by s (At u) t n e = let a : u ≡ t = cc in ap At a
+finished-by s None t n e = absurd (let z : _≡_ {A = ℕ} 0 1 = cc in omega arith)
+
+pub finished-end : (v : Service) (s : List ℕ) (i t n : ℕ) → Finished t n ≡ segmentAt v i s → (i ≤ length s) × (endFrom v false i (drop i s) ≡ At t)
+finished-end v s i t n c = go (decLt i (length s))
+  where
+    go : Dec (i < length s) → (i ≤ length s) × (endFrom v false i (drop i s) ≡ At t)
+    go (yes h) = let g : i ≤ length s = omega arith in (g, finished-by s (endFrom v false i (drop i s)) t n (segment-by v s i h (endFrom v false i (drop i s)) refl ∙ sym c))
+    go (no g) =
+        let h : length s ≤ i = omega arith in
+        let w = segment-nothing v s i h ∙ sym c in
+        absurd (let z : _≡_ {A = ℕ} 0 1 = cc in omega arith)
+
+unfinished-by : (s : List ℕ) (k : End) → segmentBy s k ≡ Unfinished → k ≡ None
+unfinished-by s (At u) e = absurd (let z : _≡_ {A = ℕ} 0 1 = cc in omega arith)
+unfinished-by s None e = refl
+
+pub unfinished-end : (v : Service) (s : List ℕ) (i : ℕ) → i < length s → Unfinished ≡ segmentAt v i s → endFrom v false i (drop i s) ≡ None
+unfinished-end v s i h c = unfinished-by s (endFrom v false i (drop i s)) (segment-by v s i h (endFrom v false i (drop i s)) refl ∙ sym c)

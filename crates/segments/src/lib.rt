@@ -93,7 +93,7 @@ fn pass_fours(s: &[u8], at: usize, v: Service) -> usize
 }
 
 // The first unreleased terminator at or after `at`.
-pub fn segment_end(s: &[u8], at: usize, v: Service) -> End
+fn segment_end(s: &[u8], at: usize, v: Service) -> End
     ensures { λ r. ⌜ r ≡ endFrom v false at (drop at (now (s .entry))) ⌝ }
 {
     let release = release_of(v);

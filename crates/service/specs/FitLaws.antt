@@ -11,7 +11,7 @@ use borrow.Author.Tests.{leb-true}
 use Rattle.service.specs.declared.Service.{Service}
 use Rattle.service.specs.declared.Characters.{Characters}
 use Rattle.service.specs.declared.Characters.the-variants.{Fit, Unfit}
-use Rattle.service.specs.Service.{plainService, within, isAlphanumeric, serves, isNone, isMark, among, distinct, presentBy, fit, serviceOf, servingBy, Fits, pick, namedBy, beginsUna, charactersOf}
+use Rattle.service.specs.Service.{plainService, within, isAlphanumeric, serves, isNone, isMark, among, distinct, presentBy, fit, serviceOf, servingBy, Fits, fitting, pick, namedBy, beginsUna, charactersOf}
 use Rattle.service.specs.ServiceLaws.{and-left, and-right}
 
 -- ---- without the mark the others still differ
@@ -52,6 +52,34 @@ fit-bytes c e m r p t h =
       release = release-by r (isNone r) refl (and-right (serves t) (isNone r || serves r) h5);
       differ = differ-by c e m r t (isNone r) refl (and-right (isMark m && (serves c && (serves e && (serves t && (isNone r || serves r))))) (distinct (presentBy (isNone r) c e m r t)) h1);
     }
+
+-- ---- the test is the record
+release-some : (v : Service) (b : Bool) → (not b || serves (v .release)) ≡ true → b ≡ true → serves (v .release) ≡ true
+release-some v true h e = h
+release-some v false h e = absurd (subst T (sym e) tt)
+
+pub fits-if : (v : Service) → fitting v ≡ true → Fits v
+unfolding fitting
+fits-if v h =
+    let each = serves (v .component) && (serves (v .element) && (serves (v .terminator) && (not (v .releases) || serves (v .release)))) in
+    let h1 = and-left each (distinct (servingBy (v .releases) v)) h in
+    let h2 = and-right (serves (v .component)) (serves (v .element) && (serves (v .terminator) && (not (v .releases) || serves (v .release)))) h1 in
+    let h3 = and-right (serves (v .element)) (serves (v .terminator) && (not (v .releases) || serves (v .release))) h2 in
+    record {
+      component = and-left (serves (v .component)) (serves (v .element) && (serves (v .terminator) && (not (v .releases) || serves (v .release)))) h1;
+      element = and-left (serves (v .element)) (serves (v .terminator) && (not (v .releases) || serves (v .release))) h2;
+      terminator = and-left (serves (v .terminator)) (not (v .releases) || serves (v .release)) h3;
+      release = release-some v (v .releases) (and-right (serves (v .terminator)) (not (v .releases) || serves (v .release)) h3);
+      differ = and-right each (distinct (servingBy (v .releases) v)) h;
+    }
+
+release-or : (v : Service) (b : Bool) → (b ≡ true → serves (v .release) ≡ true) → (not b || serves (v .release)) ≡ true
+release-or v true h = h refl
+release-or v false h = refl
+
+pub fits-fitting : (v : Service) → Fits v → fitting v ≡ true
+unfolding fitting
+fits-fitting v f = rw (f .component, f .element, f .terminator, release-or v (v .releases) (f .release), f .differ)
 
 pub plain-fits : Fits plainService
 unfolding serves isAlphanumeric distinct among

@@ -80,6 +80,12 @@ pub record Fits (v : Service) : Type 0 where
   pub release : v .releases ≡ true → serves (v .release) ≡ true
   pub differ : distinct (servingBy (v .releases) v) ≡ true
 
+-- the same as a test: "service characters break the rule above" (number 2) where it fails. Where there is no release, that byte does not matter.
+unfoldable pub fitting : Service → Bool
+fitting v =
+    (serves (v .component) && (serves (v .element) && (serves (v .terminator) && (not (v .releases) || serves (v .release)))))
+    && distinct (servingBy (v .releases) v)
+
 -- whether bytes begin with UNA (past the end of a list, 0 is read)
 unfoldable pub beginsUna : List ℕ → Bool
 beginsUna s = eqb (getD s 0 0) 85 && (eqb (getD s 1 0) 78 && eqb (getD s 2 0) 65)

@@ -10,7 +10,7 @@ use borrow.Author.Tests.{eq-eqb, ne-eqb, le-leb, lt-leb, leb-true, leb-false, eq
 use Rattle.service.specs.declared.Service.{Service}
 use Rattle.service.specs.declared.Characters.{Characters}
 use Rattle.service.specs.declared.Characters.the-variants.{Fit, Unfit}
-use Rattle.service.specs.Service.{plainService, within, isAlphanumeric, serves, isNone, isMark, among, distinct, presentBy, fit, serviceOf, pick, namedBy, beginsUna, charactersOf}
+use Rattle.service.specs.Service.{plainService, within, isAlphanumeric, serves, isNone, isMark, among, distinct, presentBy, fit, serviceOf, pick, namedBy, servingBy, fitting, beginsUna, charactersOf}
 
 -- ---- tests joined
 pub and-left : (x y : Bool) → (x && y) ≡ true → x ≡ true
@@ -120,6 +120,25 @@ module _ (b w x y z : ℕ) where
           last true = refl
           last false = refl
 
+-- ---- three bytes
+module _ (a b c : ℕ) where
+  pub three-first : a ≡ b → false ≡ distinct (a ∷ b ∷ c ∷ [])
+  unfolding distinct among
+  three-first f = simp (eq-eqb a b f)
+
+  module _ (n : a ≡ b → ⊥) where
+    pub three-second : a ≡ c → false ≡ distinct (a ∷ b ∷ c ∷ [])
+    unfolding distinct among
+    three-second f = simp (ne-eqb a b n, eq-eqb a c f)
+
+    pub three-third : (a ≡ c → ⊥) → not (eqb b c) ≡ distinct (a ∷ b ∷ c ∷ [])
+    unfolding distinct among
+    three-third m = simp (ne-eqb a b n, ne-eqb a c m) (last (eqb b c))
+      where
+        last : (t : Bool) → not t ≡ (not (t || false) && true)
+        last true = refl
+        last false = refl
+
 -- ---- five bytes
 module _ (a b c d e : ℕ) (k : Bool) (p : k ≡ not (among a (b ∷ c ∷ d ∷ e ∷ []))) where
   pub differ-first : k ≡ false → false ≡ distinct (a ∷ b ∷ c ∷ d ∷ e ∷ [])
@@ -142,26 +161,40 @@ module _ (a b c d e : ℕ) (k : Bool) (p : k ≡ not (among a (b ∷ c ∷ d ∷
     pub differ-second : j ≡ false → false ≡ distinct (a ∷ b ∷ c ∷ d ∷ e ∷ [])
     differ-second f = sym (differ-by ∙ simp f)
 
-    module _ (z : j ≡ true) where
-      rest : distinct (a ∷ b ∷ c ∷ d ∷ e ∷ []) ≡ distinct (c ∷ d ∷ e ∷ [])
-      rest = differ-by ∙ simp z
+    pub differ-rest : j ≡ true → (r : Bool) → r ≡ distinct (c ∷ d ∷ e ∷ []) → r ≡ distinct (a ∷ b ∷ c ∷ d ∷ e ∷ [])
+    differ-rest z r h = h ∙ sym (differ-by ∙ simp z)
 
-      pub differ-third : c ≡ d → false ≡ distinct (a ∷ b ∷ c ∷ d ∷ e ∷ [])
-      unfolding distinct among
-      differ-third f = sym (rest ∙ simp (eq-eqb c d f))
+-- ---- those present
+module _ (v : Service) where
+  pub present-three : v .releases ≡ false → (r : Bool) → r ≡ distinct (v .component ∷ v .element ∷ v .terminator ∷ []) → r ≡ distinct (servingBy (v .releases) v)
+  present-three e r h = rw e h
 
-      module _ (n : c ≡ d → ⊥) where
-        pub differ-fourth : c ≡ e → false ≡ distinct (a ∷ b ∷ c ∷ d ∷ e ∷ [])
-        unfolding distinct among
-        differ-fourth f = sym (rest ∙ simp (ne-eqb c d n, eq-eqb c e f))
+  module _ (e : v .releases ≡ true) (k : Bool) (p : k ≡ not (among (v .component) (v .element ∷ v .release ∷ v .terminator ∷ v .terminator ∷ []))) where
+    present-is : distinct (servingBy (v .releases) v) ≡ (k && distinct (v .element ∷ v .release ∷ v .terminator ∷ []))
+    unfolding distinct among
+    present-is = rw (e, p) (ap (λ (t : Bool). not t && distinct (v .element ∷ v .release ∷ v .terminator ∷ [])) (twice (eqb (v .component) (v .element)) (eqb (v .component) (v .release)) (eqb (v .component) (v .terminator))))
+      where
+        twice : (x y z : Bool) → (x || (y || (z || false))) ≡ (x || (y || (z || (z || false))))
+        twice true y z = refl
+        twice false true z = refl
+        twice false false true = refl
+        twice false false false = refl
 
-        pub differ-fifth : (c ≡ e → ⊥) → not (eqb d e) ≡ distinct (a ∷ b ∷ c ∷ d ∷ e ∷ [])
-        unfolding distinct among
-        differ-fifth m = sym (rest ∙ simp (ne-eqb c d n, ne-eqb c e m) (last (eqb d e)))
-          where
-            last : (t : Bool) → (not (t || false) && true) ≡ not t
-            last true = refl
-            last false = refl
+    pub present-not : k ≡ false → false ≡ distinct (servingBy (v .releases) v)
+    present-not f = sym (present-is ∙ rw f)
+
+    pub present-four : k ≡ true → (r : Bool) → r ≡ distinct (v .element ∷ v .release ∷ v .terminator ∷ []) → r ≡ distinct (servingBy (v .releases) v)
+    present-four f r h = h ∙ sym (present-is ∙ rw f)
+
+-- ---- whether characters are fit
+module _ (v : Service) (k : Bool) (p : k ≡ (serves (v .component) && (serves (v .element) && (serves (v .terminator) && (not (v .releases) || serves (v .release)))))) where
+  pub fitting-not : k ≡ false → false ≡ fitting v
+  unfolding fitting
+  fitting-not e = rw (sym p ∙ e)
+
+  pub fitting-each : k ≡ true → (r : Bool) → r ≡ distinct (servingBy (v .releases) v) → r ≡ fitting v
+  unfolding fitting
+  fitting-each e r h = rw (sym p ∙ e) h
 
 -- ---- each by itself
 module _ (v : Service) (k : Bool) (p : k ≡ serves (v .component)) where

@@ -3,7 +3,7 @@ ghost use mathlib.Core.Path.{_≡_};
 ghost use mathlib.Core.List.{[], _∷_};
 ghost use mathlib.Core.Bool.{not, _&&_, _||_};
 ghost use lib.ListN.{getD};
-ghost use Rattle.service.specs.Service.{plainService, isAlphanumeric, serves, isMark, isNone, among, distinct, namedBy, beginsUna, charactersOf};
+ghost use Rattle.service.specs.Service.{plainService, isAlphanumeric, serves, isMark, isNone, among, distinct, namedBy, servingBy, fitting, beginsUna, charactersOf};
 
 pub struct Service {
     pub component: u8,
@@ -20,7 +20,7 @@ pub enum Characters {
 }
 
 // The characters of an interchange without UNA.
-pub fn plain() -> Service
+fn plain() -> Service
     ensures { λ r. ⌜ r ≡ plainService ⌝ }
 {
     Service {
@@ -96,19 +96,26 @@ fn is_none_of(b: u8, w: u8, x: u8, y: u8, z: u8) -> bool
     b != z
 }
 
+// Whether three bytes all differ.
+fn three_differ(a: u8, b: u8, c: u8) -> bool
+    ensures { λ r. ⌜ r ≡ distinct (a ∷ b ∷ c ∷ []) ⌝ }
+{
+    if a == b {
+        return false;
+    }
+    if a == c {
+        return false;
+    }
+    b != c
+}
+
 // Whether five bytes all differ.
 fn all_differ(a: u8, b: u8, c: u8, d: u8, e: u8) -> bool
     ensures { λ r. ⌜ r ≡ distinct (a ∷ b ∷ c ∷ d ∷ e ∷ []) ⌝ }
 {
     if is_none_of(a, b, c, d, e) {
         if is_none_of(b, c, d, e, a) {
-            if c == d {
-                return false;
-            }
-            if c == e {
-                return false;
-            }
-            return d != e;
+            return three_differ(c, d, e);
         }
     }
     false
@@ -134,6 +141,35 @@ fn each_fits(v: Service) -> bool
                 return release_fits(v);
             }
         }
+    }
+    false
+}
+
+// Whether those of the characters that are there all differ.
+fn present_differ(v: Service) -> bool
+    ensures { λ r. ⌜ r ≡ distinct (servingBy (v .releases) v) ⌝ }
+{
+    if v.releases {
+        if is_none_of(
+            v.component,
+            v.element,
+            v.release,
+            v.terminator,
+            v.terminator,
+        ) {
+            return three_differ(v.element, v.release, v.terminator);
+        }
+        return false;
+    }
+    three_differ(v.component, v.element, v.terminator)
+}
+
+// Whether a reader may go by the characters.
+pub fn fits(v: Service) -> bool
+    ensures { λ r. ⌜ r ≡ fitting v ⌝ }
+{
+    if each_fits(v) {
+        return present_differ(v);
     }
     false
 }

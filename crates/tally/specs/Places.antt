@@ -1,5 +1,5 @@
--- Which segment a byte stands in, and where a segment stands.
-use Prim.Native.Nat.{ℕ, suc, zero}
+-- Which segment a byte stands in.
+use Prim.Native.Nat.{ℕ, suc}
 use mathlib.Core.List.{List, [], _∷_}
 use mathlib.Core.Bool.{Bool, true, false}
 use lib.Dec.{ltb}
@@ -19,10 +19,3 @@ unfoldable pub passed : ℕ → ℕ → List Piece → ℕ
 passed e p [] = 0
 passed e p (finished a t ∷ l) = passBy (ltb p (nextStart e l)) (passed e p l)
 passed e p (unfinished a t ∷ l) = 0
-
--- where the segment with n segments before it begins, or the end of the text where there is none
-unfoldable pub startAfter : ℕ → ℕ → List Piece → ℕ
-startAfter e n [] = e
-startAfter e zero (p ∷ l) = startOf p
-startAfter e (suc n) (finished a t ∷ l) = startAfter e n l
-startAfter e (suc n) (unfinished a t ∷ l) = e

@@ -1,34 +1,26 @@
 -- What one reading of a message's bytes finds: the first byte that no value may have, and the segments, LIN, SEQ and UNT counted and found.
-use Prim.Native.Nat.{ℕ, suc, _+_, _-_}
+use Prim.Native.Nat.{ℕ, _+_, _-_}
 use mathlib.Core.List.{List, [], _∷_}
-use mathlib.Core.Bool.{Bool, true, false, not, _||_}
+use mathlib.Core.Bool.{Bool, true, false, not}
 use lib.ListN.{take, drop}
-use lib.Dec.{eqb, leb}
+use lib.Dec.{eqb}
 use Rattle.service.specs.declared.Service.{Service}
-use Rattle.service.specs.Service.{within}
 use Rattle.segments.specs.SegmentList.{Piece, finished, unfinished}
+use Rattle.parts.specs.Written.{strangePlaces}
 use Rattle.values.specs.Values.{valueFrom, codeOf}
 use Rattle.faults.specs.declared.First.{First}
 use Rattle.faults.specs.declared.First.the-variants as first
 use Rattle.faults.specs.Firsts.{lesser, placeUnless}
 use Rattle.tally.specs.declared.Tally.{Tally}
 
--- "0x20..0x7E and 0xA0..0xFF"
-unfoldable pub isValueByte : ℕ → Bool
-isValueByte b = within 32 126 b || leb 160 b
+-- the first of some places
+abbrev pub firstPlace : List ℕ → First
+firstPlace [] = first.None
+firstPlace (p ∷ l) = first.At p
 
-abbrev pub badBy : Bool → ℕ → First → First
-badBy true i on = on
-badBy false i on = first.At i
-
--- 10: "under 10 the first such byte": of these bytes, which begin at i, the first outside
-unfoldable pub firstBad : ℕ → List ℕ → First
-firstBad i [] = first.None
-firstBad i (b ∷ l) = badBy (isValueByte b) i (firstBad (suc i) l)
-
--- the same of the bytes of a text from a up to but excluding e
+-- 10: "under 10 the first such byte": of the bytes of a text from a up to but excluding e, the first that no value may have
 abbrev pub badBetween : List ℕ → ℕ → ℕ → First
-badBetween m a e = firstBad a (take (e - a) (drop a m))
+badBetween m a e = firstPlace (strangePlaces a (take (e - a) (drop a m)))
 
 -- the codes of the tags LIN, SEQ and UNT
 abbrev pub LIN : ℕ

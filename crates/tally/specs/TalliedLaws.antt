@@ -1,12 +1,12 @@
 -- The loops of a tally, turn by turn. Assumes nothing.
 use Prim.Native.Nat.{ℕ, suc, zero, _+_, _-_, _≤_, _<_}
 use native.Mathlib.Omega.{arith}
-use mathlib.Core.Path.{_≡_, refl, sym, _∙_, ap}
+use mathlib.Core.Path.{_≡_, refl, sym, _∙_, ap, subst}
 use mathlib.Core.List.{List, [], _∷_}
 use mathlib.Core.Bool.{Bool, true, false, not, _&&_, _||_}
 use lib.ListN.{length, getD, take, drop, drop-of-length-le}
 use lib.Seq.{drop-cons}
-use lib.Dec.{eqb, leb}
+use lib.Dec.{T, eqb, leb}
 use borrow.Author.Tests.{le-leb, lt-leb}
 use Rattle.service.specs.declared.Service.{Service}
 use Rattle.segments.specs.declared.Segment.{Segment}
@@ -15,6 +15,8 @@ use Rattle.segments.specs.Segments.{segmentAt}
 use Rattle.segments.specs.SegmentsLaws.{lies}
 use Rattle.segments.specs.SegmentList.{segmentsFrom}
 use Rattle.segments.specs.ListLaws.{list-nothing, list-finished, list-unfinished}
+use Rattle.parts.specs.Parts.{isStrange, keep}
+use Rattle.parts.specs.Written.{strangePlaces}
 use Rattle.values.specs.Values.{valueFrom, codeOf}
 use Rattle.faults.specs.declared.First.{First}
 use Rattle.faults.specs.declared.First.the-variants as first
@@ -22,52 +24,65 @@ use Rattle.faults.specs.Firsts.{lesser, placeUnless}
 use Rattle.faults.specs.FirstsLaws.{lesser-last, lesser-group}
 use Rattle.tally.specs.declared.Tally.{Tally}
 use Rattle.tally.specs.Few.{Few}
-use Rattle.tally.specs.Tallied.{isValueByte, badBy, firstBad, badBetween, LIN, SEQ, UNT, oneIf, finishedOne, unfinishedOne, nothing, together, tallyOf}
+use Rattle.tally.specs.Tallied.{firstPlace, badBetween, LIN, SEQ, UNT, oneIf, finishedOne, unfinishedOne, nothing, together, tallyOf}
 
 -- ---- a byte
-pub value-low : (b : ℕ) → b < 32 → false ≡ isValueByte b
-unfolding isValueByte
+pub value-low : (b : ℕ) → b < 32 → false ≡ not (isStrange b)
+unfolding isStrange
 value-low b h = let g : b < 160 = omega arith in simp (lt-leb 32 b h, lt-leb 160 b g)
 
-pub value-plain : (b : ℕ) → 32 ≤ b → b ≤ 126 → true ≡ isValueByte b
-unfolding isValueByte
+pub value-plain : (b : ℕ) → 32 ≤ b → b ≤ 126 → true ≡ not (isStrange b)
+unfolding isStrange
 value-plain b h g = simp (le-leb 32 b h, le-leb b 126 g)
 
-pub value-high : (b : ℕ) → 32 ≤ b → 126 < b → leb 160 b ≡ isValueByte b
-unfolding isValueByte
-value-high b h g = simp (le-leb 32 b h, lt-leb b 126 g)
+pub value-high : (b : ℕ) → b < 256 → 32 ≤ b → 126 < b → leb 160 b ≡ not (isStrange b)
+unfolding isStrange
+value-high b k h g = let l : b ≤ 255 = omega arith in simp (le-leb 32 b h, lt-leb b 126 g, le-leb b 255 l) (go (leb 160 b))
+  where
+    go : (x : Bool) → x ≡ not (not (x && true))
+    go true = refl
+    go false = refl
 
 -- ---- the first bad byte
 module _ (x : First) (m : List ℕ) (to i : ℕ) (inv : x ≡ badBetween m i to) where
   pub bad-past : to ≤ i → first.None ≡ x
-  unfolding firstBad
+  unfolding strangePlaces
   bad-past h = let e : to - i ≡ 0 = omega arith in sym (inv ∙ rw e refl)
 
   pub bad-end : length m ≤ i → first.None ≡ x
-  unfolding firstBad
-  bad-end h = sym (inv ∙ ap (λ (l : List ℕ). firstBad i (take (to - i) l)) (drop-of-length-le m h) ∙ none (to - i))
+  unfolding strangePlaces
+  bad-end h = sym (inv ∙ ap (λ (l : List ℕ). firstPlace (strangePlaces i (take (to - i) l))) (drop-of-length-le m h) ∙ none (to - i))
     where
-      none : (n : ℕ) → firstBad i (take n []) ≡ first.None
+      none : (n : ℕ) → firstPlace (strangePlaces i (take n [])) ≡ first.None
       none zero = refl
       none (suc n) = refl
 
   module _ (h : i < to) (g : i < length m) where
-    bad-by : x ≡ badBy (isValueByte (getD m i 0)) i (badBetween m (i + 1) to)
-    unfolding firstBad
+    bad-by : x ≡ firstPlace (keep (isStrange (getD m i 0)) i (strangePlaces (i + 1) (take (to - (i + 1)) (drop (i + 1) m))))
+    unfolding strangePlaces
     bad-by =
         let e : to - i ≡ suc (to - (i + 1)) = omega arith in
         let n : suc i ≡ i + 1 = omega arith in
         inv
-        ∙ ap (λ (k : ℕ). firstBad i (take k (drop i m))) e
-        ∙ ap (λ (l : List ℕ). firstBad i (take (suc (to - (i + 1))) l)) (drop-cons m i 0 g)
-        ∙ ap (λ (k : ℕ). badBy (isValueByte (getD m i 0)) i (firstBad k (take (to - (i + 1)) (drop k m)))) n
+        ∙ ap (λ (k : ℕ). firstPlace (strangePlaces i (take k (drop i m)))) e
+        ∙ ap (λ (l : List ℕ). firstPlace (strangePlaces i (take (suc (to - (i + 1))) l))) (drop-cons m i 0 g)
+        ∙ ap (λ (k : ℕ). firstPlace (keep (isStrange (getD m i 0)) i (strangePlaces k (take (to - (i + 1)) (drop k m))))) n
 
-    module _ (t : Bool) (q : t ≡ isValueByte (getD m i 0)) where
+    bad-if : (s : Bool) → isStrange (getD m i 0) ≡ s → x ≡ firstPlace (keep s i (strangePlaces (i + 1) (take (to - (i + 1)) (drop (i + 1) m))))
+    bad-if s e = bad-by ∙ ap (λ (b : Bool). firstPlace (keep b i (strangePlaces (i + 1) (take (to - (i + 1)) (drop (i + 1) m))))) e
+
+    module _ (t : Bool) (q : t ≡ not (isStrange (getD m i 0))) where
+      turned : (s u : Bool) → t ≡ not s → t ≡ not u → s ≡ u
+      turned true true a b = refl
+      turned true false a b = absurd (subst T (sym b ∙ a) tt)
+      turned false true a b = absurd (subst T (sym a ∙ b) tt)
+      turned false false a b = refl
+
       pub bad-here : t ≡ false → first.At i ≡ x
-      bad-here e = sym (bad-by ∙ ap (λ (b : Bool). badBy b i (badBetween m (i + 1) to)) (sym q ∙ e))
+      bad-here e = sym (bad-if true (turned (isStrange (getD m i 0)) true q e))
 
       pub bad-on : t ≡ true → x ≡ badBetween m (i + 1) to
-      bad-on e = bad-by ∙ ap (λ (b : Bool). badBy b i (badBetween m (i + 1) to)) (sym q ∙ e)
+      bad-on e = bad-if false (turned (isStrange (getD m i 0)) false q e)
 
 -- ---- one segment more
 abbrev made : First → ℕ → ℕ → ℕ → First → Tally

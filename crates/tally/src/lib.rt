@@ -1,11 +1,13 @@
 // A message's bytes gone over once: the first byte that no value may have, its segments counted, its first UNT.
 ghost use Prim.Native.Nat.{ℕ, _+_, _<_};
 ghost use mathlib.Core.Path.{_≡_};
+ghost use mathlib.Core.Bool.{not};
 ghost use lib.ListN.{length};
-ghost use Rattle.segments.specs.SegmentList.{segmentsFrom};
+ghost use Rattle.parts.specs.Parts.{isStrange};
+ghost use Rattle.segments.specs.SegmentList.{segmentsFrom, startAt};
 ghost use Rattle.tally.specs.Few.{Few};
-ghost use Rattle.tally.specs.Places.{passed, startAfter};
-ghost use Rattle.tally.specs.Tallied.{isValueByte, badBetween, oneIf, finishedOne, unfinishedOne, together, tallyOf};
+ghost use Rattle.tally.specs.Places.{passed};
+ghost use Rattle.tally.specs.Tallied.{badBetween, oneIf, finishedOne, unfinishedOne, together, tallyOf};
 use faults::First;
 use segments::Segment;
 use service::Service;
@@ -25,8 +27,8 @@ pub struct Tally {
 }
 
 // Whether a value may have the byte: 0x20 to 0x7E or 0xA0 to 0xFF.
-pub fn is_value_byte(b: u8) -> bool
-    ensures { λ r. ⌜ r ≡ isValueByte b ⌝ }
+fn is_value_byte(b: u8) -> bool
+    ensures { λ r. ⌜ r ≡ not (isStrange b) ⌝ }
 {
     if b < 0x20 {
         return false;
@@ -155,7 +157,7 @@ pub fn segments_before(m: &[u8], v: Service, at: usize) -> usize
 
 // Where the segment with `before` segments before it begins; the end of the bytes where there are fewer.
 pub fn segment_start(m: &[u8], v: Service, before: usize) -> usize
-    ensures { λ r. ⌜ r ≡ startAfter (length (now (m .entry))) before (segmentsFrom v (now (m .entry)) 0) ⌝ }
+    ensures { λ r. ⌜ r ≡ startAt v (now (m .entry)) before ⌝ }
 {
     let mut k: usize = 0;
     let mut at: usize = 0;

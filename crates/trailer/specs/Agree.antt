@@ -2,7 +2,6 @@
 use Prim.Native.Nat.{ℕ}
 use mathlib.Core.Path.{_≡_, refl, _∙_}
 use mathlib.Core.List.{List, [], _∷_}
-use lib.ListN.{length}
 use Rattle.message.specs.Segs.{Seg, UNT, is}
 use Rattle.message.specs.Rules.{reference, rule17, rule18}
 use Rattle.message.specs.Run.{run, firstOf, testStep}
@@ -16,9 +15,9 @@ module _ (n : ℕ) (l : List ℕ) where
   parts st [] = refl
   parts st (s ∷ ss) = parts (trailerStep n l st s) ss
 
-  pub agree17 : (m : List Seg) → n ≡ length m → run (trailerStep n l) trailerStart m .first17 ≡ firstOf (rule17 m)
+  pub agree17 : (m : List Seg) → run (trailerStep n l) trailerStart m .first17 ≡ firstOf (rule17 n m)
   unfolding rule17
-  agree17 m e = rw (parts trailerStart m, ← e) (test-tells (is UNT) (countIs n) m)
+  agree17 m = rw (parts trailerStart m) (test-tells (is UNT) (countIs n) m)
 
   pub agree18 : (m : List Seg) → l ≡ reference m → run (trailerStep n l) trailerStart m .first18 ≡ firstOf (rule18 m)
   unfolding rule18

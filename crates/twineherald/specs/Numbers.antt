@@ -1,5 +1,5 @@
--- The numbers that C receives for each answer.
-use Prim.Native.Nat.{ℕ, _%_}
+-- The numbers that C receives for each answer: they are the answer's own.
+use Prim.Native.Nat.{ℕ}
 use mathlib.Core.Path.{_≡_}
 use mathlib.Core.List.{List}
 use lib.ListN.{length}
@@ -9,6 +9,7 @@ use Rattle.service.specs.Service.{charactersOf}
 use Rattle.interchange.specs.declared.Refusal.{Refusal}
 use Rattle.interchange.specs.Envelope.{refusal}
 use Rattle.interchange.specs.declared.Closing.{Closing}
+use Rattle.lent.specs.Lists.{Lists}
 use Rattle.report.specs.declared.Counts.{Counts}
 use Rattle.report.specs.declared.Report.{Report}
 use Rattle.report.specs.declared.Report.the-variants as report
@@ -33,14 +34,7 @@ nothingOf = record { number = 0; segment = 0; offset = 0; segments = 0; orders =
 
 -- acceptance: number 0, and the counts
 abbrev pub acceptedOf : Counts → ReportNumbers
-acceptedOf c = record {
-  number = 0;
-  segment = 0;
-  offset = 0;
-  segments = c .segments % 4294967296;
-  orders = c .orders % 4294967296;
-  payments = c .payments % 4294967296;
-}
+acceptedOf c = record { number = 0; segment = 0; offset = 0; segments = c .segments; orders = c .orders; payments = c .payments }
 
 abbrev pub reportOf : Report → ReportNumbers
 reportOf (report.Accepted c) = acceptedOf c
@@ -48,7 +42,7 @@ reportOf (report.Refused f) = refusedOf f
 
 -- a step of the walk: whether a message was found, where it lies, and its report
 abbrev pub stepWith : ℕ → ℕ → ℕ → ReportNumbers → StepNumbers
-stepWith found start end r = record { found = found; start = start % 4294967296; end = end % 4294967296; report = r }
+stepWith found start end r = record { found = found; start = start; end = end; report = r }
 
 abbrev pub stepOf : Walked → StepNumbers
 stepOf (walk.Message a e r) = stepWith 1 a e (reportOf r)
@@ -56,21 +50,21 @@ stepOf walk.Nothing = stepWith 0 0 0 nothingOf
 stepOf (walk.Refused f) = stepWith 0 0 0 (refusedOf f)
 
 abbrev pub rewritingNumbers : Rewriting → RewritingNumbers
-rewritingNumbers (rewrite.Written n) = record { number = 0; length = n % 4294967296 }
+rewritingNumbers (rewrite.Written n) = record { number = 0; length = n }
 rewritingNumbers (rewrite.Refused f) = record { number = f .number; length = 0 }
 
 -- what closing found
 abbrev pub closingNumbers : Closing → ClosingNumbers
-closingNumbers c = record { number = c .number; messages = c .messages % 4294967296; strays = c .strays % 4294967296 }
+closingNumbers c = record { number = c .number; messages = c .messages; strays = c .strays }
 
--- the numbers are those of the walk's answer from the position at in the bytes b
-pub data Stepped (b : List ℕ) (at : ℕ) (x : StepNumbers) (r r′ s s′ t t′ : List ℕ) : Type 0 where
-  stepped : (w : Walked) → Walks b at r r′ s s′ t t′ w → x ≡ stepOf w → Stepped b at x r r′ s s′ t t′
+-- the numbers are those of the walk's answer from the position at in the bytes b; the lists are x before and x′ after
+pub data Stepped (b : List ℕ) (at : ℕ) (x x′ : Lists) (y : StepNumbers) : Type 0 where
+  stepped : (w : Walked) → Walks b at x x′ w → y ≡ stepOf w → Stepped b at x x′ y
 
 -- the numbers are those of the report of a message's bytes m, read with the service characters of an interchange that begins with h; 2 if these do not fit
-pub data Checked (h m : List ℕ) (x : ReportNumbers) (r r′ s s′ t t′ : List ℕ) : Type 0 where
-  checked : (v : Service) (una : ℕ) (w : Report) → charactersOf h ≡ Fit v una → Reported v m r r′ s s′ t t′ w → x ≡ reportOf w → Checked h m x r r′ s s′ t t′
-  unfit : charactersOf h ≡ Unfit → x ≡ refusedOf (refusal 2) → r′ ≡ r → s′ ≡ s → t′ ≡ t → Checked h m x r r′ s s′ t t′
+pub data Checked (h m : List ℕ) (x x′ : Lists) (y : ReportNumbers) : Type 0 where
+  checked : (v : Service) (una : ℕ) (w : Report) → charactersOf h ≡ Fit v una → Reported v m x x′ w → y ≡ reportOf w → Checked h m x x′ y
+  unfit : charactersOf h ≡ Unfit → y ≡ refusedOf (refusal 2) → x′ ≡ x → Checked h m x x′ y
 
 -- the numbers are those of the answer for the bytes b and this room, and the room is as that answer leaves it
 pub record Rewritten (b : List ℕ) (x : RewritingNumbers) (o o′ : List ℕ) : Type 0 where

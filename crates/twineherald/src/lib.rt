@@ -1,7 +1,9 @@
 // The calls for C: open, walk, check, close and rewrite on byte slices and numbers. include/twineherald.h declares them.
 ghost use mathlib.Core.Path.{_≡_};
-ghost use Prim.Native.Nat.{_%_};
+ghost use Prim.Native.Nat.{_%_, _≤_};
 ghost use Rattle.interchange.specs.Envelope.{openingNumber, openingOf, closingOf};
+ghost use Rattle.lent.specs.Lists.{lists};
+ghost use Rattle.report.specs.FewLaws.{Few, FewIn};
 ghost use Rattle.twineherald.specs.Numbers.{acceptedOf, refusedOf, reportOf, nothingOf, stepWith, stepOf, closingNumbers, Stepped, Checked, Rewritten};
 use interchange::Opening;
 use interchange::Refusal;
@@ -75,6 +77,7 @@ fn nothing() -> ReportNumbers
 }
 
 fn accepted(c: Counts) -> ReportNumbers
+    requires { ⌜ Few c ⌝ }
     ensures { λ x. ⌜ x ≡ acceptedOf c ⌝ }
 {
     ReportNumbers {
@@ -88,6 +91,7 @@ fn accepted(c: Counts) -> ReportNumbers
 }
 
 fn report_numbers(r: Report) -> ReportNumbers
+    requires { ⌜ FewIn r ⌝ }
     ensures { λ x. ⌜ x ≡ reportOf r ⌝ }
 {
     match r {
@@ -97,6 +101,8 @@ fn report_numbers(r: Report) -> ReportNumbers
 }
 
 fn step_numbers(found: u32, start: usize, end: usize, r: ReportNumbers) -> StepNumbers
+    requires { ⌜ start ≤ 1048576 ⌝ }
+    requires { ⌜ end ≤ 1048576 ⌝ }
     ensures { λ x. ⌜ x ≡ stepWith found start end r ⌝ }
 {
     StepNumbers {
@@ -126,7 +132,7 @@ pub extern "C" fn twineherald_walk(
     starts: &mut [u32],
     totals: &mut [u64],
 ) -> StepNumbers
-    ensures { λ x. ⌜ Stepped (now (bytes .entry)) at x (now (rows .entry)) (now (rows .exit)) (now (starts .entry)) (now (starts .exit)) (now (totals .entry)) (now (totals .exit)) ⌝ }
+    ensures { λ x. ⌜ Stepped (now (bytes .entry)) at (lists (now (rows .entry)) (now (starts .entry)) (now (totals .entry))) (lists (now (rows .exit)) (now (starts .exit)) (now (totals .exit))) x ⌝ }
 {
     let w = walk::walk(bytes, at, rows, starts, totals);
     match w {
@@ -144,7 +150,7 @@ pub extern "C" fn twineherald_check(
     starts: &mut [u32],
     totals: &mut [u64],
 ) -> ReportNumbers
-    ensures { λ x. ⌜ Checked (now (head .entry)) (now (message .entry)) x (now (rows .entry)) (now (rows .exit)) (now (starts .entry)) (now (starts .exit)) (now (totals .entry)) (now (totals .exit)) ⌝ }
+    ensures { λ x. ⌜ Checked (now (head .entry)) (now (message .entry)) (lists (now (rows .entry)) (now (starts .entry)) (now (totals .entry))) (lists (now (rows .exit)) (now (starts .exit)) (now (totals .exit))) x ⌝ }
 {
     let c = service::characters_of(head);
     match c {

@@ -94,10 +94,6 @@ of-number l n r s = go l (r .digit) (r .some) (r .lead) (subst (λ (c : ℕ). c 
         let h′ : 0 < length (b ∷ []) = omega arith in
         digit-passes b number.Not _ x y ∙ ap (λ (c : ℕ). digits 1 c q) w ∙ write-number (b ∷ []) q (digit-one b x y) h′ d u s
 
--- there is none exactly if the answer is `Not`
-pub number-not : (l : List ℕ) → numberOf l ≡ number.Not → (n : ℕ) → NumberIs l n → n < 10000000000000000000 → ⊥
-number-not l e n r s = not-of n (sym e ∙ of-number l n r s)
-
 pub not-number : (l : List ℕ) → ((n : ℕ) → NumberIs l n → n < 10000000000000000000 → ⊥) → numberOf l ≡ number.Not
 not-number l h = go (numberOf l) refl
   where

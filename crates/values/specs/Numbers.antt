@@ -40,7 +40,3 @@ pub record NumberIs (l : List ℕ) (n : ℕ) : Type 0 where
 pub record ThreeCapitals (l : List ℕ) : Type 0 where
   pub three : length l ≡ 3
   pub capital : (k : ℕ) → k < 3 → (65 ≤ getD l k 0) × (getD l k 0 ≤ 90)
-
--- a text is bytes: each of its numbers is below 256
-abbrev pub Bytes : List ℕ → Type 0
-Bytes l = (k : ℕ) → getD l k 0 < 256

@@ -1,7 +1,8 @@
 -- What a value writes, as the loops find it.
 use Prim.Native.Nat.{ℕ, suc, zero, _+_, _*_, _-_, _/_, _%_}
+use Prim.Native.String.{String}
 use mathlib.Core.List.{List, [], _∷_}
-use mathlib.Core.Bool.{Bool, true, false}
+use mathlib.Core.Bool.{Bool, false}
 use lib.ListN.{drop}
 use lib.Dec.{eqb, ltb, leb}
 use Rattle.service.specs.declared.Service.{Service}
@@ -19,6 +20,8 @@ use Rattle.values.specs.declared.Number.the-variants as number
 use Rattle.values.specs.declared.Whole.{Whole}
 use Rattle.values.specs.declared.Whole.the-variants as whole
 unfoldable pub use Rattle.values.specs.Numbers.{valueFrom, valueIn}
+unfoldable pub use Rattle.values.specs.Text.{sameList}
+use Rattle.values.specs.Text.{text}
 
 -- the next byte of the value at i, by the token there
 abbrev pub nextBy : Token → Next
@@ -29,13 +32,6 @@ nextBy token.Stop = next.Done
 
 unfoldable pub nextAt : Service → ℕ → List ℕ → Next
 nextAt v i s = nextBy (tokenAt v i (drop i s))
-
--- whether two values are the same
-unfoldable pub sameList : List ℕ → List ℕ → Bool
-sameList [] [] = true
-sameList [] (y ∷ ys) = false
-sameList (x ∷ xs) [] = false
-sameList (x ∷ xs) (y ∷ ys) = if (eqb x y) (sameList xs ys) false
 
 -- the number that digits write after `acc`, `count` digits of which some were read: no leading zero, below 10^19
 unfoldable pub digits : ℕ → ℕ → List ℕ → Number
@@ -112,13 +108,18 @@ abbrev pub isNumber : Number → ℕ → Bool
 isNumber (number.Of m) n = eqb m n
 isNumber number.Not n = false
 
--- ---- codes: the digit 1 and then the bytes, to the base 256; 0 for more than seven bytes
+-- ---- codes: the digit 1 and then the bytes, to the base 256; 0 for more than seven, and where a number is no byte. Two values with one code, not 0,
+-- are the same (`code-one` of CodeLaws).
 unfoldable pub codeFrom : ℕ → List ℕ → ℕ
 codeFrom code [] = code
-codeFrom code (b ∷ l) = if (ltb 72057594037927935 code) 0 (codeFrom (code * 256 + b) l)
+codeFrom code (b ∷ l) = if (ltb 72057594037927935 code) 0 (if (ltb b 256) (codeFrom (code * 256 + b) l) 0)
 
 abbrev pub codeOf : List ℕ → ℕ
 codeOf l = codeFrom 1 l
+
+-- the code of letters; `says-code` of TextLaws: a value has it exactly if it is these letters
+abbrev pub letters : String → ℕ
+letters w = codeOf (text w)
 
 -- ---- whether a code is that of three capitals
 unfoldable pub isCapital : ℕ → Bool

@@ -162,9 +162,9 @@ module _ (x : ℕ) (v : Service) (s : List ℕ) (i code : ℕ) (inv : x ≡ code
     unfolding codeFrom
     code-long h = sym (code-on ∙ simp (lt-ltb _ _ h))
 
-    pub code-more : code ≤ 72057594037927935 → (w : ℕ) → w ≡ b → x ≡ codeFrom (code * 256 + w) (valueFrom v n s)
+    pub code-more : code ≤ 72057594037927935 → b < 256 → (w : ℕ) → w ≡ b → x ≡ codeFrom (code * 256 + w) (valueFrom v n s)
     unfolding codeFrom
-    code-more h w f = rw f (code-on ∙ simp (le-ltb _ _ h))
+    code-more h g w f = rw f (code-on ∙ simp (le-ltb _ _ h, lt-ltb _ _ g))
 
 -- ---- by a value's position, or by its component and element
 pub code-at-value : (x p : ℕ) (v : Service) (s l : List ℕ) → valueOf (lex v false (drop p s)) ≡ l → x ≡ codeOf (valueFrom v p s) → x ≡ codeOf l

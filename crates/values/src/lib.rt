@@ -28,7 +28,7 @@ enum Whole {
 }
 
 // The next byte of the value at `i`, released or not, and where the rest begins.
-pub fn next_at(s: &[u8], i: usize, v: Service) -> Next
+fn next_at(s: &[u8], i: usize, v: Service) -> Next
     ensures { λ r. ⌜ r ≡ nextAt v i (now (s .entry)) ⌝ }
 {
     let t = parts::token_at(s, i, v);
@@ -125,7 +125,7 @@ pub fn code_at(s: &[u8], at: usize, v: Service) -> u64
 }
 
 // The number that the value at `at` writes: digits, no leading zero, below 10^19.
-pub fn number_at(s: &[u8], at: usize, v: Service) -> Number
+fn number_at(s: &[u8], at: usize, v: Service) -> Number
     ensures { λ r. ⌜ r ≡ numberOf (valueFrom v at (now (s .entry))) ⌝ }
 {
     let mut i = at;

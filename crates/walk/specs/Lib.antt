@@ -1,4 +1,3 @@
-pub mod Place
 pub mod PlaceLaws
 pub mod Frame
 pub mod FrameLaws

@@ -7,26 +7,26 @@ use Rattle.service.specs.declared.Service.{Service}
 use Rattle.service.specs.declared.Characters.the-variants.{Fit}
 use Rattle.service.specs.Service.{charactersOf}
 use Rattle.interchange.specs.declared.Refusal.{Refusal}
+use Rattle.lent.specs.Lists.{Lists}
 use Rattle.report.specs.declared.Report.{Report}
 use Rattle.report.specs.Reported.{Reported}
 use Rattle.walk.specs.declared.Walked.{Walked}
 use Rattle.walk.specs.declared.Walked.the-variants as walked
-use Rattle.walk.specs.Frame.{Step, message, nothing, refused, stepAt, stepFrom}
+use Rattle.walk.specs.Frame.{message, nothing, refused, stepAt, stepFrom}
 
 -- "The bytes of a found message are handed on as a part of the interchange": from a up to but excluding e
 abbrev pub between : List ℕ → ℕ → ℕ → List ℕ
 between s a e = take (e - a) (drop a s)
 
--- the rows r, starts x and totals t before, and r′, x′ and t′ after: what the step finds, and of a message its report, which "depends on these bytes, the
--- service characters and the lent room alone"; without one no list is changed
-pub data Walks (s : List ℕ) (at : ℕ) (r r′ x x′ t t′ : List ℕ) : Walked → Type 0 where
-  walks-message : (v : Service) (una a e : ℕ) (y : Report) → charactersOf s ≡ Fit v una → message a e ≡ stepFrom s at → Reported v (between s a e) r r′ x x′ t t′ y
-      → Walks s at r r′ x x′ t t′ (walked.Message a e y)
-  walks-nothing : nothing ≡ stepFrom s at → r′ ≡ r → x′ ≡ x → t′ ≡ t → Walks s at r r′ x x′ t t′ walked.Nothing
-  walks-refused : (f : Refusal) → refused f ≡ stepFrom s at → r′ ≡ r → x′ ≡ x → t′ ≡ t → Walks s at r r′ x x′ t t′ (walked.Refused f)
+-- the lists x before and x′ after: what the step finds, and of a message its report, which "depends on these bytes, the service characters and the lent
+-- room alone"; without one no list is changed
+pub data Walks (s : List ℕ) (at : ℕ) (x x′ : Lists) : Walked → Type 0 where
+  walks-message : (v : Service) (una a e : ℕ) (y : Report) → charactersOf s ≡ Fit v una → message a e ≡ stepFrom s at → Reported v (between s a e) x x′ y → Walks s at x x′ (walked.Message a e y)
+  walks-nothing : nothing ≡ stepFrom s at → x′ ≡ x → Walks s at x x′ walked.Nothing
+  walks-refused : (f : Refusal) → refused f ≡ stepFrom s at → x′ ≡ x → Walks s at x x′ (walked.Refused f)
 
 -- the same with the service characters at hand
-pub data WalksWith (v : Service) (s : List ℕ) (at : ℕ) (r r′ x x′ t t′ : List ℕ) : Walked → Type 0 where
-  with-message : (a e : ℕ) (y : Report) → message a e ≡ stepAt v s at → Reported v (between s a e) r r′ x x′ t t′ y → WalksWith v s at r r′ x x′ t t′ (walked.Message a e y)
-  with-nothing : nothing ≡ stepAt v s at → r′ ≡ r → x′ ≡ x → t′ ≡ t → WalksWith v s at r r′ x x′ t t′ walked.Nothing
-  with-refused : (f : Refusal) → refused f ≡ stepAt v s at → r′ ≡ r → x′ ≡ x → t′ ≡ t → WalksWith v s at r r′ x x′ t t′ (walked.Refused f)
+pub data WalksWith (v : Service) (s : List ℕ) (at : ℕ) (x x′ : Lists) : Walked → Type 0 where
+  with-message : (a e : ℕ) (y : Report) → message a e ≡ stepAt v s at → Reported v (between s a e) x x′ y → WalksWith v s at x x′ (walked.Message a e y)
+  with-nothing : nothing ≡ stepAt v s at → x′ ≡ x → WalksWith v s at x x′ walked.Nothing
+  with-refused : (f : Refusal) → refused f ≡ stepAt v s at → x′ ≡ x → WalksWith v s at x x′ (walked.Refused f)

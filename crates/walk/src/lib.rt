@@ -1,6 +1,5 @@
 // The next message of an interchange from any position, found and judged.
-ghost use lib.ListN.{length};
-ghost use Rattle.walk.specs.Place.{Place};
+ghost use Rattle.lent.specs.Lists.{lists};
 ghost use Rattle.walk.specs.Walks.{Walks, WalksWith};
 use interchange::Found;
 use interchange::Refusal;
@@ -24,8 +23,7 @@ fn walk_with(
     starts: &mut [u32],
     totals: &mut [u64],
 ) -> Walked
-    ensures { λ r. ⌜ Place (length (now (s .entry))) at r ⌝ }
-    ensures { λ r. ⌜ WalksWith v (now (s .entry)) at (now (rows .entry)) (now (rows .exit)) (now (starts .entry)) (now (starts .exit)) (now (totals .entry)) (now (totals .exit)) r ⌝ }
+    ensures { λ r. ⌜ WalksWith v (now (s .entry)) at (lists (now (rows .entry)) (now (starts .entry)) (now (totals .entry))) (lists (now (rows .exit)) (now (starts .exit)) (now (totals .exit))) r ⌝ }
 {
     if s.len() < at {
         return Walked::Refused(interchange::refuse(8));
@@ -43,8 +41,7 @@ fn walk_with(
 
 // Finds the next message from the position `at` on, and checks it.
 pub fn walk(s: &[u8], at: usize, rows: &mut [u16], starts: &mut [u32], totals: &mut [u64]) -> Walked
-    ensures { λ r. ⌜ Place (length (now (s .entry))) at r ⌝ }
-    ensures { λ r. ⌜ Walks (now (s .entry)) at (now (rows .entry)) (now (rows .exit)) (now (starts .entry)) (now (starts .exit)) (now (totals .entry)) (now (totals .exit)) r ⌝ }
+    ensures { λ r. ⌜ Walks (now (s .entry)) at (lists (now (rows .entry)) (now (starts .entry)) (now (totals .entry))) (lists (now (rows .exit)) (now (starts .exit)) (now (totals .exit))) r ⌝ }
 {
     if interchange::MOST < s.len() {
         return Walked::Refused(interchange::refuse(1));

@@ -1,5 +1,5 @@
 -- `amounts::step` meets its contract. Assumes nothing.
-use Rattle.amounts.specs.StepLaws.{step-lin, step-moa, step-cux, step-paid, step-other}
+use Rattle.amounts.specs.StepLaws.{step-lin, step-moa, step-cux, step-paid, step-other, at-lin, at-moa, at-cux, at-paid, at-other}
 use borrow.Author.Needs.{needs}
 use Rattle.amounts.proofs.step.Statement.{statement}
 use Rattle.amounts.proofs.step.Tie as tie
@@ -12,34 +12,34 @@ use Rattle.amounts.proofs.order_moa.Reads as order-moa-reads
 use Rattle.amounts.proofs.payment_moa.Reads as payment-moa-reads
 
 no-order-requires : tie.Need-no-order-requires
-no-order-requires c κs = search (step-lin, step-moa, step-cux, step-paid, step-other, needs)
+no-order-requires c κs = search (step-lin, step-moa, step-cux, step-paid, step-other, at-lin, at-moa, at-cux, at-paid, at-other, needs)
 
 next-order-requires : tie.Need-next-order-requires
-next-order-requires c κs = search (step-lin, step-moa, step-cux, step-paid, step-other, needs)
+next-order-requires c κs = search (step-lin, step-moa, step-cux, step-paid, step-other, at-lin, at-moa, at-cux, at-paid, at-other, needs)
 
 returns : tie.Need-returns
-returns c = search (step-lin, step-moa, step-cux, step-paid, step-other, needs)
+returns c = search (step-lin, step-moa, step-cux, step-paid, step-other, at-lin, at-moa, at-cux, at-paid, at-other, needs)
 
 order-moa-requires : tie.Need-order-moa-requires
-order-moa-requires c κs = search (step-lin, step-moa, step-cux, step-paid, step-other, needs)
+order-moa-requires c κs = search (step-lin, step-moa, step-cux, step-paid, step-other, at-lin, at-moa, at-cux, at-paid, at-other, needs)
 
 returns-2 : tie.Need-returns-2
-returns-2 c = search (step-lin, step-moa, step-cux, step-paid, step-other, needs)
+returns-2 c = search (step-lin, step-moa, step-cux, step-paid, step-other, at-lin, at-moa, at-cux, at-paid, at-other, needs)
 
 exchange-requires : tie.Need-exchange-requires
-exchange-requires c κs = search (step-lin, step-moa, step-cux, step-paid, step-other, needs)
+exchange-requires c κs = search (step-lin, step-moa, step-cux, step-paid, step-other, at-lin, at-moa, at-cux, at-paid, at-other, needs)
 
 returns-3 : tie.Need-returns-3
-returns-3 c = search (step-lin, step-moa, step-cux, step-paid, step-other, needs)
+returns-3 c = search (step-lin, step-moa, step-cux, step-paid, step-other, at-lin, at-moa, at-cux, at-paid, at-other, needs)
 
 payment-moa-requires : tie.Need-payment-moa-requires
-payment-moa-requires c κs = search (step-lin, step-moa, step-cux, step-paid, step-other, needs)
+payment-moa-requires c κs = search (step-lin, step-moa, step-cux, step-paid, step-other, at-lin, at-moa, at-cux, at-paid, at-other, needs)
 
 returns-4 : tie.Need-returns-4
-returns-4 c = search (step-lin, step-moa, step-cux, step-paid, step-other, needs)
+returns-4 c = search (step-lin, step-moa, step-cux, step-paid, step-other, at-lin, at-moa, at-cux, at-paid, at-other, needs)
 
 returns-5 : tie.Need-returns-5
-returns-5 c = search (step-lin, step-moa, step-cux, step-paid, step-other, needs)
+returns-5 c = search (step-lin, step-moa, step-cux, step-paid, step-other, at-lin, at-moa, at-cux, at-paid, at-other, needs)
 
 pub step-spec : {M : Type 1} → statement M
 step-spec =

@@ -1,10 +1,11 @@
 -- Placing over the table is the machine's run: every need is a law of Walk, or of the table's nesting. Placing goes from rows to the rows inside them, and
 -- ends: the rows that are left fall. Assumes nothing.
 use Prim.Native.Nat.{_+_, _-_}
+use denote.Ref.{now}
 use borrow.Author.Needs.{needs}
 use Rattle.chart.specs.Columns.{endOf}
 use Rattle.chart.proofs.Nest.{kids-some, kids-fall, first-fits}
-use Rattle.chart.proofs.Walk.{RowInv, RowsInv, row-start, row-again, row-stuck, row-less, row-fits, row-short, row-done, rows-start, rows-it, rows-falls, rows-less, rows-small, rows-again, rows-stuck, rows-done}
+use Rattle.chart.proofs.Walk.{RowInv, RowsInv, row-start, row-leaf, row-again, row-stuck, row-less, row-fits, row-short, row-done, rows-start, rows-it, rows-falls, rows-less, rows-small, rows-again, rows-stuck, rows-done}
 use Prim.Native.Nat.{ℕ, _<_}
 use borrow.Fn.Kinds.{In}
 use borrow.Fn.PlainCycle.{Measures, is, falls, and}
@@ -25,7 +26,7 @@ use Rattle.chart.proofs.+place_occurrences+place_rows.{statement}
 use Rattle.chart.proofs.+place_occurrences+place_rows.Tie.{close}
 
 abbrev μ-place-occurrences : Measures 2 place-occurrences-kinds.ps ℕ
-μ-place-occurrences κs a = (endOf (a .1 .1 .1 .0) - a .1 .1 .1 .0) + (endOf (a .1 .1 .1 .0) - a .1 .1 .1 .0)
+μ-place-occurrences κs a = (endOf (now (a .1 .1 .0)) (a .1 .1 .1 .0) - a .1 .1 .1 .0) + (endOf (now (a .1 .1 .0)) (a .1 .1 .1 .0) - a .1 .1 .1 .0)
 
 abbrev μ-place-rows : Measures 2 place-rows-kinds.ps ℕ
 μ-place-rows κs a = (a .1 .1 .1 .1 .0 - a .1 .1 .1 .0) + (a .1 .1 .1 .1 .0 - a .1 .1 .1 .0) + 1
@@ -62,10 +63,10 @@ abbrev rows-claims : ℕ → place-rows-lts.Claims
 rows-claims t = (place-occurrences-below t, place-occurrences.Post, end-of-reads.Asked, end-of-reads.Learnt)
 
 abbrev place-occurrences-Inv-loop : place-occurrences-lts.InvT-loop
-place-occurrences-Inv-loop m v chart r tag most end first times₀ c₀ times c = RowInv v m r c₀ times c
+place-occurrences-Inv-loop m v t r tag most end others times₀ c₀ times c = RowInv t v m r c₀ times c
 
 abbrev place-occurrences-μ-loop : place-occurrences-lts.MeasureT-loop
-place-occurrences-μ-loop m v chart r tag most end first times₀ c₀ times c = most - times
+place-occurrences-μ-loop m v t r tag most end others times₀ c₀ times c = most - times
 
 place-occurrences-tag-of-requires : (t : ℕ) → place-occurrences-lts.Need-tag-of-requires (occurrences-claims t) (place-occurrences-at t) place-occurrences.Post place-occurrences-Inv-loop place-occurrences-μ-loop
 place-occurrences-tag-of-requires t c κs = search needs
@@ -79,6 +80,9 @@ place-occurrences-end-of-requires t c κs = search needs
 place-occurrences-first-of-requires : (t : ℕ) → place-occurrences-lts.Need-first-of-requires (occurrences-claims t) (place-occurrences-at t) place-occurrences.Post place-occurrences-Inv-loop place-occurrences-μ-loop
 place-occurrences-first-of-requires t c κs = search needs
 
+place-occurrences-add-others : (t : ℕ) → place-occurrences-lts.Need-add-others (occurrences-claims t) (place-occurrences-at t) place-occurrences.Post place-occurrences-Inv-loop place-occurrences-μ-loop
+place-occurrences-add-others t c = search (first-fits, needs)
+
 place-occurrences-loop-holds : (t : ℕ) → place-occurrences-lts.Need-loop-holds (occurrences-claims t) (place-occurrences-at t) place-occurrences.Post place-occurrences-Inv-loop place-occurrences-μ-loop
 place-occurrences-loop-holds t c = search (row-start, needs)
 
@@ -87,9 +91,6 @@ place-occurrences-takes-requires t c κs = search needs
 
 place-occurrences-add-next : (t : ℕ) → place-occurrences-lts.Need-add-next (occurrences-claims t) (place-occurrences-at t) place-occurrences.Post place-occurrences-Inv-loop place-occurrences-μ-loop
 place-occurrences-add-next t c = search (row-fits, needs)
-
-place-occurrences-add-place-rows : (t : ℕ) → place-occurrences-lts.Need-add-place-rows (occurrences-claims t) (place-occurrences-at t) place-occurrences.Post place-occurrences-Inv-loop place-occurrences-μ-loop
-place-occurrences-add-place-rows t c = search (first-fits, needs)
 
 place-occurrences-step-requires : (t : ℕ) → place-occurrences-lts.Need-step-requires (occurrences-claims t) (place-occurrences-at t) place-occurrences.Post place-occurrences-Inv-loop place-occurrences-μ-loop
 place-occurrences-step-requires t c κs = search needs
@@ -112,6 +113,12 @@ place-occurrences-loop-less t c = search (row-less, needs)
 place-occurrences-loop-again : (t : ℕ) → place-occurrences-lts.Need-loop-again (occurrences-claims t) (place-occurrences-at t) place-occurrences.Post place-occurrences-Inv-loop place-occurrences-μ-loop
 place-occurrences-loop-again t c = search (row-again, needs)
 
+place-occurrences-loop-less-2 : (t : ℕ) → place-occurrences-lts.Need-loop-less-2 (occurrences-claims t) (place-occurrences-at t) place-occurrences.Post place-occurrences-Inv-loop place-occurrences-μ-loop
+place-occurrences-loop-less-2 t c = search (row-less, needs)
+
+place-occurrences-loop-again-2 : (t : ℕ) → place-occurrences-lts.Need-loop-again-2 (occurrences-claims t) (place-occurrences-at t) place-occurrences.Post place-occurrences-Inv-loop place-occurrences-μ-loop
+place-occurrences-loop-again-2 t c = search (row-leaf, needs)
+
 place-occurrences-owes-requires : (t : ℕ) → place-occurrences-lts.Need-owes-requires (occurrences-claims t) (place-occurrences-at t) place-occurrences.Post place-occurrences-Inv-loop place-occurrences-μ-loop
 place-occurrences-owes-requires t c κs = search needs
 
@@ -122,10 +129,10 @@ place-occurrences-returns-3 : (t : ℕ) → place-occurrences-lts.Need-returns-3
 place-occurrences-returns-3 t c = search (row-done, needs)
 
 abbrev place-rows-Inv-loop : place-rows-lts.InvT-loop
-place-rows-Inv-loop m v chart lo hi r₀ c₀ r c = RowsInv v m lo hi c₀ r c
+place-rows-Inv-loop m v t lo hi r₀ c₀ r c = RowsInv t v m lo hi c₀ r c
 
 abbrev place-rows-μ-loop : place-rows-lts.MeasureT-loop
-place-rows-μ-loop m v chart lo hi r₀ c₀ r c = hi - r
+place-rows-μ-loop m v t lo hi r₀ c₀ r c = hi - r
 
 place-rows-loop-holds : (t : ℕ) → place-rows-lts.Need-loop-holds (rows-claims t) (place-rows-at t) place-rows.Post place-rows-Inv-loop place-rows-μ-loop
 place-rows-loop-holds t c = search (rows-start, needs)
@@ -161,10 +168,10 @@ pub +place-occurrences+place-rows-spec : {M : Type 1} → statement M
     (place-occurrences-most-of-requires t)
     (place-occurrences-end-of-requires t)
     (place-occurrences-first-of-requires t)
+    (place-occurrences-add-others t)
     (place-occurrences-loop-holds t)
     (place-occurrences-takes-requires t)
     (place-occurrences-add-next t)
-    (place-occurrences-add-place-rows t)
     (place-occurrences-step-requires t)
     (place-occurrences-place-rows-requires t)
     (place-occurrences-enum-known-w t)
@@ -172,6 +179,8 @@ pub +place-occurrences+place-rows-spec : {M : Type 1} → statement M
     (place-occurrences-returns t)
     (place-occurrences-loop-less t)
     (place-occurrences-loop-again t)
+    (place-occurrences-loop-less-2 t)
+    (place-occurrences-loop-again-2 t)
     (place-occurrences-owes-requires t)
     (place-occurrences-returns-2 t)
     (place-occurrences-returns-3 t))

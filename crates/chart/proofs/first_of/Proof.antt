@@ -1,4 +1,4 @@
--- The first row of an occurrence: the next row for a group, the row itself for a segment. Assumes nothing.
+-- The next row for a group, the row itself for a segment. Assumes nothing.
 use Rattle.chart.proofs.Nest.{first-group, first-segment}
 use borrow.Author.Needs.{needs}
 use Rattle.chart.proofs.first_of.Statement.{statement}

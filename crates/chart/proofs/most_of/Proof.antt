@@ -1,72 +1,66 @@
--- `chart::most_of` reads the status and the repeats of the row's line.
-use Rattle.chart.proofs.Lines.{line-fits, hundreds-fit, repeats-fit, line-never, line-most}
+-- Never, or the repeats of the row's line. Assumes nothing.
+use Rattle.chart.proofs.Lines.{most-never, most-repeats}
 use borrow.Author.Needs.{needs}
 use Rattle.chart.proofs.most_of.Statement.{statement}
 use Rattle.chart.proofs.most_of.Tie as tie
 use Rattle.chart.proofs.most_of.Reads as reads
 use Rattle.chart.proofs.most_of.Lts as lts
+use Rattle.chart.proofs.index.Reads as index-reads
+use Rattle.chart.proofs.status_of.Reads as status-of-reads
 
-mul-if1 : tie.Need-mul-if1
-mul-if1 c = search (line-fits, hundreds-fit, repeats-fit, line-never, line-most, needs)
-
-index-1-if1 : tie.Need-index-1-if1
-index-1-if1 c = search (line-fits, hundreds-fit, repeats-fit, line-never, line-most, needs)
-
-index-2-if1 : tie.Need-index-2-if1
-index-2-if1 c = search (line-fits, hundreds-fit, repeats-fit, line-never, line-most, needs)
+status-of-requires : tie.Need-status-of-requires
+status-of-requires c κs = search (most-never, most-repeats, needs)
 
 returns : tie.Need-returns
-returns c = search (line-fits, hundreds-fit, repeats-fit, line-never, line-most, needs)
+returns c = search (most-never, most-repeats, needs)
+
+mul-index : tie.Need-mul-index
+mul-index c = search (most-never, most-repeats, needs)
+
+index-1-index : tie.Need-index-1-index
+index-1-index c = search (most-never, most-repeats, needs)
+
+index-2-index : tie.Need-index-2-index
+index-2-index c = search (most-never, most-repeats, needs)
+
+index-requires : tie.Need-index-requires
+index-requires c κs = search (most-never, most-repeats, needs)
+
+mul-index-2 : tie.Need-mul-index-2
+mul-index-2 c = search (most-never, most-repeats, needs)
+
+index-1-index-2 : tie.Need-index-1-index-2
+index-1-index-2 c = search (most-never, most-repeats, needs)
+
+index-2-index-2 : tie.Need-index-2-index-2
+index-2-index-2 c = search (most-never, most-repeats, needs)
+
+index-requires-2 : tie.Need-index-requires-2
+index-requires-2 c κs = search (most-never, most-repeats, needs)
 
 mul-result : tie.Need-mul-result
-mul-result c = search (line-fits, hundreds-fit, repeats-fit, line-never, line-most, needs)
-
-index-1-result : tie.Need-index-1-result
-index-1-result c = search (line-fits, hundreds-fit, repeats-fit, line-never, line-most, needs)
-
-index-2-result : tie.Need-index-2-result
-index-2-result c = search (line-fits, hundreds-fit, repeats-fit, line-never, line-most, needs)
-
-cast-result : tie.Need-cast-result
-cast-result c = search (line-fits, hundreds-fit, repeats-fit, line-never, line-most, needs)
-
-mul-result-2 : tie.Need-mul-result-2
-mul-result-2 c = search (line-fits, hundreds-fit, repeats-fit, line-never, line-most, needs)
-
-mul-result-3 : tie.Need-mul-result-3
-mul-result-3 c = search (line-fits, hundreds-fit, repeats-fit, line-never, line-most, needs)
-
-index-1-result-2 : tie.Need-index-1-result-2
-index-1-result-2 c = search (line-fits, hundreds-fit, repeats-fit, line-never, line-most, needs)
-
-index-2-result-2 : tie.Need-index-2-result-2
-index-2-result-2 c = search (line-fits, hundreds-fit, repeats-fit, line-never, line-most, needs)
-
-cast-result-2 : tie.Need-cast-result-2
-cast-result-2 c = search (line-fits, hundreds-fit, repeats-fit, line-never, line-most, needs)
+mul-result c = search (most-never, most-repeats, needs)
 
 add-result : tie.Need-add-result
-add-result c = search (line-fits, hundreds-fit, repeats-fit, line-never, line-most, needs)
+add-result c = search (most-never, most-repeats, needs)
 
 returns-2 : tie.Need-returns-2
-returns-2 c = search (line-fits, hundreds-fit, repeats-fit, line-never, line-most, needs)
+returns-2 c = search (most-never, most-repeats, needs)
 
 pub most-of-spec : {M : Type 1} → statement M
 most-of-spec =
     tie.close
     (tie.spec
-    mul-if1
-    index-1-if1
-    index-2-if1
+    status-of-requires
     returns
+    mul-index
+    index-1-index
+    index-2-index
+    index-requires
+    mul-index-2
+    index-1-index-2
+    index-2-index-2
+    index-requires-2
     mul-result
-    index-1-result
-    index-2-result
-    cast-result
-    mul-result-2
-    mul-result-3
-    index-1-result-2
-    index-2-result-2
-    cast-result-2
     add-result
     returns-2)

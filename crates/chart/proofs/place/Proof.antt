@@ -1,48 +1,24 @@
--- Placing the whole chart: all segments have been taken, or one is left over, or no message goes on.
-use Rattle.chart.proofs.Nest.{chart-some}
-use Rattle.chart.proofs.Whole.{whole-placed, whole-over, whole-stuck}
+-- PAYMUL's table passes the tests. Assumes nothing.
+use Rattle.chart.proofs.Paymul.{paymul-sound-at, paymul-answers}
 use borrow.Author.Needs.{needs}
 use Rattle.chart.proofs.place.Statement.{statement}
 use Rattle.chart.proofs.place.Tie as tie
 use Rattle.chart.proofs.place.Reads as reads
 use Rattle.chart.proofs.place.Lts as lts
-use Rattle.chart.proofs.cursor_at.Reads as cursor-at-reads
-use Rattle.chart.proofs.place_rows.Reads as place-rows-reads
+use Rattle.chart.proofs.place_on.Reads as place-on-reads
 use Rattle.paymul.proofs.chart.Reads as chart-reads
 
-cursor-at-requires : tie.Need-cursor-at-requires
-cursor-at-requires c κs = search (chart-some, whole-over, whole-placed, whole-stuck, needs)
-
 chart-requires : tie.Need-chart-requires
-chart-requires c κs = search (chart-some, whole-over, whole-placed, whole-stuck, needs)
+chart-requires c κs = search (paymul-sound-at, paymul-answers, needs)
 
-place-rows-requires : tie.Need-place-rows-requires
-place-rows-requires c κs = search (chart-some, whole-over, whole-placed, whole-stuck, needs)
+slice-aggregate-place-on : tie.Need-slice-aggregate-place-on
+slice-aggregate-place-on c = search (paymul-sound-at, paymul-answers, needs)
 
-enum-known-w : tie.Need-enum-known-w
-enum-known-w c = search (chart-some, whole-over, whole-placed, whole-stuck, needs)
+place-on-requires : tie.Need-place-on-requires
+place-on-requires c κs = search (paymul-sound-at, paymul-answers, needs)
 
 returns : tie.Need-returns
-returns c = search (chart-some, whole-over, whole-placed, whole-stuck, needs)
-
-enum-known-w-2 : tie.Need-enum-known-w-2
-enum-known-w-2 c = search (chart-some, whole-over, whole-placed, whole-stuck, needs)
-
-returns-2 : tie.Need-returns-2
-returns-2 c = search (chart-some, whole-over, whole-placed, whole-stuck, needs)
-
-returns-3 : tie.Need-returns-3
-returns-3 c = search (chart-some, whole-over, whole-placed, whole-stuck, needs)
+returns c = search (paymul-sound-at, paymul-answers, needs)
 
 pub place-spec : {M : Type 1} → statement M
-place-spec =
-    tie.close
-    (tie.spec
-    cursor-at-requires
-    chart-requires
-    place-rows-requires
-    enum-known-w
-    returns
-    enum-known-w-2
-    returns-2
-    returns-3)
+place-spec = tie.close (tie.spec chart-requires slice-aggregate-place-on place-on-requires returns)

@@ -1,12 +1,10 @@
--- `interchange::find_end` meets its contract. The invariant: the place was not passed backwards, and what is found is what would be found from the
--- segment at hand. Assumes nothing.
+-- `interchange::find_end` meets its contract. The invariant: what is found is what would be found from the segment at hand. Assumes nothing.
 use borrow.Author.Needs.{needs}
-use Prim.Native.Nat.{_-_, _≤_}
+use Prim.Native.Nat.{_-_}
 use mathlib.Core.Path.{_≡_}
 use lib.ListN.{length}
 use Rattle.segments.specs.SegmentList.{segmentsFrom}
-use Rattle.segments.specs.SegmentsLaws.{less-segment, segment-end-fits, segment-keep}
-use Rattle.interchange.specs.ExtentLaws.{sought-end, sought-past, sought-before, sought-cut}
+use Rattle.segments.specs.SegmentsLaws.{less-segment, segment-end-fits}
 use Rattle.interchange.specs.FindLaws.{endFound, end-nothing, end-cut, end-trailer, end-head, end-last, end-on}
 use Rattle.interchange.proofs.find_end.Statement.{statement}
 use Rattle.interchange.proofs.find_end.Tie as tie
@@ -17,55 +15,55 @@ use Rattle.interchange.proofs.tag_at.Reads as tag-at-reads
 use Rattle.segments.proofs.segment_at.Reads as segment-at-reads
 
 abbrev Inv-loop : tie.InvT-loop
-Inv-loop s start from v i₀ i = (from ≤ i) × (endFound v s start (segmentsFrom v s from) ≡ endFound v s start (segmentsFrom v s i))
+Inv-loop s start from v i₀ i = endFound v s start (segmentsFrom v s from) ≡ endFound v s start (segmentsFrom v s i)
 
 abbrev μ-loop : tie.MeasureT-loop
 μ-loop s start from v i₀ i = length s - i
 
 loop-holds : tie.Need-loop-holds Inv-loop μ-loop
-loop-holds c = search (less-segment, segment-end-fits, segment-keep, sought-end, sought-past, sought-before, sought-cut, end-nothing, end-cut, end-trailer, end-head, end-last, end-on, needs)
+loop-holds c = search (less-segment, segment-end-fits, end-nothing, end-cut, end-trailer, end-head, end-last, end-on, needs)
 
 segment-at-requires : tie.Need-segment-at-requires Inv-loop μ-loop
-segment-at-requires c κs = search (less-segment, segment-end-fits, segment-keep, sought-end, sought-past, sought-before, sought-cut, end-nothing, end-cut, end-trailer, end-head, end-last, end-on, needs)
+segment-at-requires c κs = search (less-segment, segment-end-fits, end-nothing, end-cut, end-trailer, end-head, end-last, end-on, needs)
 
 enum-known-g : tie.Need-enum-known-g Inv-loop μ-loop
-enum-known-g c = search (less-segment, segment-end-fits, segment-keep, sought-end, sought-past, sought-before, sought-cut, end-nothing, end-cut, end-trailer, end-head, end-last, end-on, needs)
+enum-known-g c = search (less-segment, segment-end-fits, end-nothing, end-cut, end-trailer, end-head, end-last, end-on, needs)
 
 tag-at-requires : tie.Need-tag-at-requires Inv-loop μ-loop
-tag-at-requires c κs = search (less-segment, segment-end-fits, segment-keep, sought-end, sought-past, sought-before, sought-cut, end-nothing, end-cut, end-trailer, end-head, end-last, end-on, needs)
+tag-at-requires c κs = search (less-segment, segment-end-fits, end-nothing, end-cut, end-trailer, end-head, end-last, end-on, needs)
 
 add-t11 : tie.Need-add-t11 Inv-loop μ-loop
-add-t11 c = search (less-segment, segment-end-fits, segment-keep, sought-end, sought-past, sought-before, sought-cut, end-nothing, end-cut, end-trailer, end-head, end-last, end-on, needs)
+add-t11 c = search (less-segment, segment-end-fits, end-nothing, end-cut, end-trailer, end-head, end-last, end-on, needs)
 
 returns : tie.Need-returns Inv-loop μ-loop
-returns c = search (less-segment, segment-end-fits, segment-keep, sought-end, sought-past, sought-before, sought-cut, end-nothing, end-cut, end-trailer, end-head, end-last, end-on, needs)
+returns c = search (less-segment, segment-end-fits, end-nothing, end-cut, end-trailer, end-head, end-last, end-on, needs)
 
 returns-2 : tie.Need-returns-2 Inv-loop μ-loop
-returns-2 c = search (less-segment, segment-end-fits, segment-keep, sought-end, sought-past, sought-before, sought-cut, end-nothing, end-cut, end-trailer, end-head, end-last, end-on, needs)
+returns-2 c = search (less-segment, segment-end-fits, end-nothing, end-cut, end-trailer, end-head, end-last, end-on, needs)
 
 is-end-requires : tie.Need-is-end-requires Inv-loop μ-loop
-is-end-requires c κs = search (less-segment, segment-end-fits, segment-keep, sought-end, sought-past, sought-before, sought-cut, end-nothing, end-cut, end-trailer, end-head, end-last, end-on, needs)
+is-end-requires c κs = search (less-segment, segment-end-fits, end-nothing, end-cut, end-trailer, end-head, end-last, end-on, needs)
 
 returns-3 : tie.Need-returns-3 Inv-loop μ-loop
-returns-3 c = search (less-segment, segment-end-fits, segment-keep, sought-end, sought-past, sought-before, sought-cut, end-nothing, end-cut, end-trailer, end-head, end-last, end-on, needs)
+returns-3 c = search (less-segment, segment-end-fits, end-nothing, end-cut, end-trailer, end-head, end-last, end-on, needs)
 
 loop-less : tie.Need-loop-less Inv-loop μ-loop
-loop-less c = search (less-segment, segment-end-fits, segment-keep, sought-end, sought-past, sought-before, sought-cut, end-nothing, end-cut, end-trailer, end-head, end-last, end-on, needs)
+loop-less c = search (less-segment, segment-end-fits, end-nothing, end-cut, end-trailer, end-head, end-last, end-on, needs)
 
 loop-again : tie.Need-loop-again Inv-loop μ-loop
-loop-again c = search (less-segment, segment-end-fits, segment-keep, sought-end, sought-past, sought-before, sought-cut, end-nothing, end-cut, end-trailer, end-head, end-last, end-on, needs)
+loop-again c = search (less-segment, segment-end-fits, end-nothing, end-cut, end-trailer, end-head, end-last, end-on, needs)
 
 enum-told : tie.Need-enum-told Inv-loop μ-loop
-enum-told c = search (less-segment, segment-end-fits, segment-keep, sought-end, sought-past, sought-before, sought-cut, end-nothing, end-cut, end-trailer, end-head, end-last, end-on, needs)
+enum-told c = search (less-segment, segment-end-fits, end-nothing, end-cut, end-trailer, end-head, end-last, end-on, needs)
 
 returns-4 : tie.Need-returns-4 Inv-loop μ-loop
-returns-4 c = search (less-segment, segment-end-fits, segment-keep, sought-end, sought-past, sought-before, sought-cut, end-nothing, end-cut, end-trailer, end-head, end-last, end-on, needs)
+returns-4 c = search (less-segment, segment-end-fits, end-nothing, end-cut, end-trailer, end-head, end-last, end-on, needs)
 
 enum-told-2 : tie.Need-enum-told-2 Inv-loop μ-loop
-enum-told-2 c = search (less-segment, segment-end-fits, segment-keep, sought-end, sought-past, sought-before, sought-cut, end-nothing, end-cut, end-trailer, end-head, end-last, end-on, needs)
+enum-told-2 c = search (less-segment, segment-end-fits, end-nothing, end-cut, end-trailer, end-head, end-last, end-on, needs)
 
 returns-5 : tie.Need-returns-5 Inv-loop μ-loop
-returns-5 c = search (less-segment, segment-end-fits, segment-keep, sought-end, sought-past, sought-before, sought-cut, end-nothing, end-cut, end-trailer, end-head, end-last, end-on, needs)
+returns-5 c = search (less-segment, segment-end-fits, end-nothing, end-cut, end-trailer, end-head, end-last, end-on, needs)
 
 pub find-end-spec : {M : Type 1} → statement M
 find-end-spec =

@@ -1,6 +1,4 @@
 -- `interchange::open` meets its contract. Assumes nothing.
-use Rattle.interchange.specs.Extent.{refused}
-use Rattle.interchange.specs.ExtentLaws.{short-all}
 use Rattle.interchange.specs.OpenLaws.{open-long, open-unfit, open-fit}
 use borrow.Author.Needs.{needs}
 use Rattle.interchange.proofs.open.Statement.{statement}
@@ -12,31 +10,31 @@ use Rattle.interchange.proofs.refuse.Reads as refuse-reads
 use Rattle.service.proofs.characters_of.Reads as characters-of-reads
 
 refuse-requires : tie.Need-refuse-requires
-refuse-requires c κs = search (short-all, refused, open-long, open-unfit, open-fit, needs)
+refuse-requires c κs = search (open-long, open-unfit, open-fit, needs)
 
 returns : tie.Need-returns
-returns c = search (short-all, refused, open-long, open-unfit, open-fit, needs)
+returns c = search (open-long, open-unfit, open-fit, needs)
 
 characters-of-requires : tie.Need-characters-of-requires
-characters-of-requires c κs = search (short-all, refused, open-long, open-unfit, open-fit, needs)
+characters-of-requires c κs = search (open-long, open-unfit, open-fit, needs)
 
 enum-known-c : tie.Need-enum-known-c
-enum-known-c c = search (short-all, refused, open-long, open-unfit, open-fit, needs)
+enum-known-c c = search (open-long, open-unfit, open-fit, needs)
 
 open-with-requires : tie.Need-open-with-requires
-open-with-requires c κs = search (short-all, refused, open-long, open-unfit, open-fit, needs)
+open-with-requires c κs = search (open-long, open-unfit, open-fit, needs)
 
 enum-told : tie.Need-enum-told
-enum-told c = search (short-all, refused, open-long, open-unfit, open-fit, needs)
+enum-told c = search (open-long, open-unfit, open-fit, needs)
 
 refuse-requires-2 : tie.Need-refuse-requires-2
-refuse-requires-2 c κs = search (short-all, refused, open-long, open-unfit, open-fit, needs)
+refuse-requires-2 c κs = search (open-long, open-unfit, open-fit, needs)
 
 returns-2 : tie.Need-returns-2
-returns-2 c = search (short-all, refused, open-long, open-unfit, open-fit, needs)
+returns-2 c = search (open-long, open-unfit, open-fit, needs)
 
 returns-3 : tie.Need-returns-3
-returns-3 c = search (short-all, refused, open-long, open-unfit, open-fit, needs)
+returns-3 c = search (open-long, open-unfit, open-fit, needs)
 
 pub open-spec : {M : Type 1} → statement M
 open-spec =

@@ -67,7 +67,7 @@ loop-less : tie.Need-loop-less Inv-loop μ-loop
 loop-less c = search (less-segment, segment-count-fits, segment-count, segment-keep, far-keep, count-last, stray-last, stop-last, count-head, stray-head, stop-head, needs)
 
 loop-again : tie.Need-loop-again Inv-loop μ-loop
-loop-again c = search (less-segment, segment-count-fits, segment-count, segment-keep, far-keep, count-last, stray-last, stop-last, count-head, stray-head, stop-head, needs)
+loop-again c = (search (segment-count, segment-keep, needs), search segment-keep, search segment-keep, search far-keep, search count-head, search stray-head, search stop-head)
 
 loop-less-2 : tie.Need-loop-less-2 Inv-loop μ-loop
 loop-less-2 c = search (less-segment, segment-count-fits, segment-count, segment-keep, far-keep, count-last, stray-last, stop-last, count-head, stray-head, stop-head, needs)

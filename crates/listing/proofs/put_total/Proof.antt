@@ -1,8 +1,7 @@
 -- `listing::put_total` meets its contract. Assumes nothing.
 use borrow.Author.Needs.{needs}
-use Rattle.listing.specs.Listing.{other, full}
+use Rattle.listing.specs.Steps.{other, full}
 use Rattle.listing.proofs.Totals.{total-put}
-use borrow.Author.Needs.{needs}
 use Rattle.listing.proofs.put_total.Statement.{statement}
 use Rattle.listing.proofs.put_total.Tie as tie
 use Rattle.listing.proofs.put_total.Reads as reads

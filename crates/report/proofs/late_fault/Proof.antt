@@ -7,7 +7,7 @@ use Rattle.report.proofs.late_fault.Reads as reads
 use Rattle.report.proofs.late_fault.Lts as lts
 use Rattle.chart.proofs.place.Reads as place-reads
 use Rattle.report.proofs.ordinal.Reads as ordinal-reads
-use Rattle.rules.proofs.judge.Reads as judge-reads
+use Rattle.report.proofs.judged.Reads as judged-reads
 use Rattle.tally.proofs.segments_before.Reads as segments-before-reads
 
 place-requires : tie.Need-place-requires
@@ -16,8 +16,8 @@ place-requires c κs = search (late-placed, late-stuck, needs)
 enum-told : tie.Need-enum-told
 enum-told c = search (late-placed, late-stuck, needs)
 
-judge-requires : tie.Need-judge-requires
-judge-requires c κs = search (late-placed, late-stuck, needs)
+judged-requires : tie.Need-judged-requires
+judged-requires c κs = search (late-placed, late-stuck, needs)
 
 enum-known-w : tie.Need-enum-known-w
 enum-known-w c = search (late-placed, late-stuck, needs)
@@ -40,7 +40,7 @@ late-fault-spec =
     (tie.spec
     place-requires
     enum-told
-    judge-requires
+    judged-requires
     enum-known-w
     segments-before-requires
     ordinal-requires

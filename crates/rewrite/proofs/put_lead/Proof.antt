@@ -7,7 +7,7 @@ use Rattle.rewrite.proofs.put_lead.Tie as tie
 use Rattle.rewrite.proofs.put_lead.Reads as reads
 use Rattle.rewrite.proofs.put_lead.Lts as lts
 use Rattle.rewrite.proofs.begins_with_break.Reads as begins-with-break-reads
-use Rattle.rewrite.proofs.put.Reads as put-reads
+use Rattle.lent.proofs.put.Reads as put-reads
 
 begins-with-break-requires : tie.Need-begins-with-break-requires
 begins-with-break-requires c κs = search (lead-put, lead-none, needs)

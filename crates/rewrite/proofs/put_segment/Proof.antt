@@ -6,7 +6,7 @@ use Rattle.rewrite.proofs.put_segment.Statement.{statement}
 use Rattle.rewrite.proofs.put_segment.Tie as tie
 use Rattle.rewrite.proofs.put_segment.Reads as reads
 use Rattle.rewrite.proofs.put_segment.Lts as lts
-use Rattle.rewrite.proofs.put.Reads as put-reads
+use Rattle.lent.proofs.put.Reads as put-reads
 use Rattle.rewrite.proofs.put_flat.Reads as put-flat-reads
 use Rattle.rewrite.proofs.put_lead.Reads as put-lead-reads
 

@@ -1,13 +1,14 @@
 -- `rewrite::put_times` meets its contract. The invariant: so many are left to put. Assumes nothing.
 use borrow.Author.Needs.{needs}
 use lib.ListN.{replicate}
-use Rattle.rewrite.specs.Puts.{Putting}
-use Rattle.rewrite.specs.PutsLaws.{putting-start, times-put, times-done}
+use Rattle.lent.specs.Puts.{Putting}
+use Rattle.lent.specs.PutsLaws.{putting-start}
+use Rattle.rewrite.specs.PutsLaws.{times-put, times-done}
 use Rattle.rewrite.proofs.put_times.Statement.{statement}
 use Rattle.rewrite.proofs.put_times.Tie as tie
 use Rattle.rewrite.proofs.put_times.Reads as reads
 use Rattle.rewrite.proofs.put_times.Lts as lts
-use Rattle.rewrite.proofs.put.Reads as put-reads
+use Rattle.lent.proofs.put.Reads as put-reads
 
 abbrev Inv-loop : tie.InvT-loop
 Inv-loop out₀ j b n k₀ left₀ out k left = Putting j (replicate n b) out₀ out k (replicate left b)

@@ -7,7 +7,7 @@ use Rattle.rewrite.proofs.put_value_byte.Tie as tie
 use Rattle.rewrite.proofs.put_value_byte.Reads as reads
 use Rattle.rewrite.proofs.put_value_byte.Lts as lts
 use Rattle.rewrite.proofs.is_released.Reads as is-released-reads
-use Rattle.rewrite.proofs.put.Reads as put-reads
+use Rattle.lent.proofs.put.Reads as put-reads
 
 is-released-requires : tie.Need-is-released-requires
 is-released-requires c κs = search (byte-released, byte-plain, needs)

@@ -1,6 +1,6 @@
 -- `rewrite::rewrite` meets its contract. Assumes nothing.
 use borrow.Author.Needs.{needs}
-use Rattle.interchange.specs.ExtentLaws.{short}
+use Rattle.interchange.specs.WithinLaws.{opened-short}
 use Rattle.rewrite.specs.RoomLaws.{refused-answer, refused-room, long-answer, long-room, written-answer, written-room}
 use borrow.Author.Needs.{needs}
 use Rattle.rewrite.proofs.rewrite.Statement.{statement}
@@ -14,37 +14,37 @@ use Rattle.rewrite.proofs.put_segments.Reads as put-segments-reads
 use Rattle.rewrite.proofs.total_length.Reads as total-length-reads
 
 open-requires : tie.Need-open-requires
-open-requires c κs = search (short, refused-answer, refused-room, long-answer, long-room, written-answer, written-room, needs)
+open-requires c κs = search (opened-short, refused-answer, refused-room, long-answer, long-room, written-answer, written-room, needs)
 
 enum-known-o : tie.Need-enum-known-o
-enum-known-o c = search (short, refused-answer, refused-room, long-answer, long-room, written-answer, written-room, needs)
+enum-known-o c = search (opened-short, refused-answer, refused-room, long-answer, long-room, written-answer, written-room, needs)
 
 enum-known-o-2 : tie.Need-enum-known-o-2
-enum-known-o-2 c = search (short, refused-answer, refused-room, long-answer, long-room, written-answer, written-room, needs)
+enum-known-o-2 c = search (opened-short, refused-answer, refused-room, long-answer, long-room, written-answer, written-room, needs)
 
 total-length-requires : tie.Need-total-length-requires
-total-length-requires c κs = search (short, refused-answer, refused-room, long-answer, long-room, written-answer, written-room, needs)
+total-length-requires c κs = search (opened-short, refused-answer, refused-room, long-answer, long-room, written-answer, written-room, needs)
 
 fits-room-requires : tie.Need-fits-room-requires
-fits-room-requires c κs = search (short, refused-answer, refused-room, long-answer, long-room, written-answer, written-room, needs)
+fits-room-requires c κs = search (opened-short, refused-answer, refused-room, long-answer, long-room, written-answer, written-room, needs)
 
 put-segments-requires : tie.Need-put-segments-requires
-put-segments-requires c κs = search (short, refused-answer, refused-room, long-answer, long-room, written-answer, written-room, needs)
+put-segments-requires c κs = search (opened-short, refused-answer, refused-room, long-answer, long-room, written-answer, written-room, needs)
 
 same-length : tie.Need-same-length
-same-length c = search (short, refused-answer, refused-room, long-answer, long-room, written-answer, written-room, needs)
+same-length c = search (opened-short, refused-answer, refused-room, long-answer, long-room, written-answer, written-room, needs)
 
 returns : tie.Need-returns
-returns c = search (short, refused-answer, refused-room, long-answer, long-room, written-answer, written-room, needs)
+returns c = search (opened-short, refused-answer, refused-room, long-answer, long-room, written-answer, written-room, needs)
 
 refuse-requires : tie.Need-refuse-requires
-refuse-requires c κs = search (short, refused-answer, refused-room, long-answer, long-room, written-answer, written-room, needs)
+refuse-requires c κs = search (opened-short, refused-answer, refused-room, long-answer, long-room, written-answer, written-room, needs)
 
 returns-2 : tie.Need-returns-2
-returns-2 c = search (short, refused-answer, refused-room, long-answer, long-room, written-answer, written-room, needs)
+returns-2 c = search (opened-short, refused-answer, refused-room, long-answer, long-room, written-answer, written-room, needs)
 
 returns-3 : tie.Need-returns-3
-returns-3 c = search (short, refused-answer, refused-room, long-answer, long-room, written-answer, written-room, needs)
+returns-3 c = search (opened-short, refused-answer, refused-room, long-answer, long-room, written-answer, written-room, needs)
 
 pub rewrite-spec : {M : Type 1} → statement M
 rewrite-spec =

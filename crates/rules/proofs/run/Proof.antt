@@ -16,10 +16,10 @@ use Rattle.rules.proofs.start.Reads as start-reads
 use Rattle.rules.proofs.step.Reads as step-reads′
 
 abbrev Inv-loop : tie.InvT-loop
-Inv-loop m v segments orders st₀ row₀ nth₀ c₀ at₀ st row nth c at = Judging v m segments orders st row nth c at
+Inv-loop m v t segments orders st₀ row₀ nth₀ c₀ at₀ st row nth c at = Judging t v m segments orders st row nth c at
 
 abbrev μ-loop : tie.MeasureT-loop
-μ-loop m v segments orders st₀ row₀ nth₀ c₀ at₀ st row nth c at = length m - at
+μ-loop m v t segments orders st₀ row₀ nth₀ c₀ at₀ st row nth c at = length m - at
 
 start-requires : tie.Need-start-requires Inv-loop μ-loop
 start-requires c κs = search (judging-first, judging-fits, judging-next, judging-end, onward-less, needs)

@@ -1,10 +1,9 @@
 -- `tally::segment_start` meets its contract. The invariant: what is still to pass. Assumes nothing.
 use Prim.Native.Nat.{_-_, _≤_}
 use mathlib.Core.Path.{_≡_}
-use lib.ListN.{length}
+use lib.ListN.{length, getD}
 use Rattle.segments.specs.SegmentsLaws.{less-segment}
-use Rattle.segments.specs.SegmentList.{segmentsFrom}
-use Rattle.tally.specs.Places.{startAfter}
+use Rattle.segments.specs.SegmentList.{startsFrom, startAt}
 use Rattle.tally.specs.PlacesLaws.{after-here, after-nothing, after-unfinished, after-on, after-within, after-start}
 use borrow.Author.Needs.{needs}
 use Rattle.tally.proofs.segment_start.Statement.{statement}
@@ -14,7 +13,7 @@ use Rattle.tally.proofs.segment_start.Lts as lts
 use Rattle.segments.proofs.segment_at.Reads as segment-at-reads
 
 abbrev Inv-loop : tie.InvT-loop
-Inv-loop m v before k₀ at₀ k at = (startAfter (length m) before (segmentsFrom v m 0) ≡ startAfter (length m) (before - k) (segmentsFrom v m at)) × (at ≤ length m)
+Inv-loop m v before k₀ at₀ k at = (startAt v m before ≡ getD (startsFrom v m at) (before - k) (length m)) × (at ≤ length m)
 
 abbrev μ-loop : tie.MeasureT-loop
 μ-loop m v before k₀ at₀ k at = length m - at

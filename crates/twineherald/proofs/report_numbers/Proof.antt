@@ -1,5 +1,6 @@
 -- `twineherald::report_numbers` meets its contract. Assumes nothing.
 use Rattle.twineherald.specs.NumbersLaws.{report-accepted, report-refused}
+use Rattle.report.specs.FewLaws.{accepted-few}
 use borrow.Author.Needs.{needs}
 use Rattle.twineherald.proofs.report_numbers.Statement.{statement}
 use Rattle.twineherald.proofs.report_numbers.Tie as tie
@@ -9,22 +10,22 @@ use Rattle.twineherald.proofs.accepted.Reads as accepted-reads
 use Rattle.twineherald.proofs.refused.Reads as refused-reads
 
 enum-known-r : tie.Need-enum-known-r
-enum-known-r c = search (report-accepted, report-refused, needs)
+enum-known-r c = search (accepted-few, report-accepted, report-refused, needs)
 
 accepted-requires : tie.Need-accepted-requires
-accepted-requires c κs = search (report-accepted, report-refused, needs)
+accepted-requires c κs = search (accepted-few, report-accepted, report-refused, needs)
 
 enum-known-r-2 : tie.Need-enum-known-r-2
-enum-known-r-2 c = search (report-accepted, report-refused, needs)
+enum-known-r-2 c = search (accepted-few, report-accepted, report-refused, needs)
 
 refused-requires : tie.Need-refused-requires
-refused-requires c κs = search (report-accepted, report-refused, needs)
+refused-requires c κs = search (accepted-few, report-accepted, report-refused, needs)
 
 returns : tie.Need-returns
-returns c = search (report-accepted, report-refused, needs)
+returns c = search (accepted-few, report-accepted, report-refused, needs)
 
 returns-2 : tie.Need-returns-2
-returns-2 c = search (report-accepted, report-refused, needs)
+returns-2 c = search (accepted-few, report-accepted, report-refused, needs)
 
 pub report-numbers-spec : {M : Type 1} → statement M
 report-numbers-spec =

@@ -1,5 +1,6 @@
 -- `twineherald::twineherald_check` meets its contract. Assumes nothing.
 use Rattle.twineherald.specs.NumbersLaws.{check-fit, check-unfit}
+use Rattle.report.specs.FewLaws.{report-few}
 use borrow.Author.Needs.{needs}
 use Rattle.twineherald.proofs.twineherald_check.Statement.{statement}
 use Rattle.twineherald.proofs.twineherald_check.Tie as tie
@@ -12,40 +13,40 @@ use Rattle.twineherald.proofs.refused.Reads as refused-reads
 use Rattle.twineherald.proofs.report_numbers.Reads as report-numbers-reads
 
 characters-of-requires : tie.Need-characters-of-requires
-characters-of-requires c κs = search (check-fit, check-unfit, needs)
+characters-of-requires c κs = search (report-few, check-fit, check-unfit, needs)
 
 enum-known-c : tie.Need-enum-known-c
-enum-known-c c = search (check-fit, check-unfit, needs)
+enum-known-c c = search (report-few, check-fit, check-unfit, needs)
 
 check-requires : tie.Need-check-requires
-check-requires c κs = search (check-fit, check-unfit, needs)
+check-requires c κs = search (report-few, check-fit, check-unfit, needs)
 
 report-numbers-requires : tie.Need-report-numbers-requires
-report-numbers-requires c κs = search (check-fit, check-unfit, needs)
+report-numbers-requires c κs = search (report-few, check-fit, check-unfit, needs)
 
 enum-told : tie.Need-enum-told
-enum-told c = search (check-fit, check-unfit, needs)
+enum-told c = search (report-few, check-fit, check-unfit, needs)
 
 refuse-requires : tie.Need-refuse-requires
-refuse-requires c κs = search (check-fit, check-unfit, needs)
+refuse-requires c κs = search (report-few, check-fit, check-unfit, needs)
 
 refused-requires : tie.Need-refused-requires
-refused-requires c κs = search (check-fit, check-unfit, needs)
+refused-requires c κs = search (report-few, check-fit, check-unfit, needs)
 
 same-length : tie.Need-same-length
-same-length c = search (check-fit, check-unfit, needs)
+same-length c = search (report-few, check-fit, check-unfit, needs)
 
 same-length-2 : tie.Need-same-length-2
-same-length-2 c = search (check-fit, check-unfit, needs)
+same-length-2 c = search (report-few, check-fit, check-unfit, needs)
 
 same-length-3 : tie.Need-same-length-3
-same-length-3 c = search (check-fit, check-unfit, needs)
+same-length-3 c = search (report-few, check-fit, check-unfit, needs)
 
 returns : tie.Need-returns
-returns c = search (check-fit, check-unfit, needs)
+returns c = search (report-few, check-fit, check-unfit, needs)
 
 returns-2 : tie.Need-returns-2
-returns-2 c = search (check-fit, check-unfit, needs)
+returns-2 c = search (report-few, check-fit, check-unfit, needs)
 
 pub twineherald-check-spec : {M : Type 1} → statement M
 twineherald-check-spec =

@@ -1,5 +1,4 @@
 -- `walk::walk` meets its contract. Assumes nothing.
-use Rattle.walk.specs.Place.{no-walk}
 use Rattle.walk.specs.WalksLaws.{walk-long, walk-fit, walk-unfit}
 use borrow.Author.Needs.{needs}
 use Rattle.walk.proofs.walk.Statement.{statement}
@@ -11,40 +10,40 @@ use Rattle.service.proofs.characters_of.Reads as characters-of-reads
 use Rattle.walk.proofs.walk_with.Reads as walk-with-reads
 
 refuse-requires : tie.Need-refuse-requires
-refuse-requires c κs = search (no-walk, walk-long, walk-fit, walk-unfit, needs)
+refuse-requires c κs = search (walk-long, walk-fit, walk-unfit, needs)
 
 returns : tie.Need-returns
-returns c = search (no-walk, walk-long, walk-fit, walk-unfit, needs)
+returns c = search (walk-long, walk-fit, walk-unfit, needs)
 
 characters-of-requires : tie.Need-characters-of-requires
-characters-of-requires c κs = search (no-walk, walk-long, walk-fit, walk-unfit, needs)
+characters-of-requires c κs = search (walk-long, walk-fit, walk-unfit, needs)
 
 enum-known-c : tie.Need-enum-known-c
-enum-known-c c = search (no-walk, walk-long, walk-fit, walk-unfit, needs)
+enum-known-c c = search (walk-long, walk-fit, walk-unfit, needs)
 
 walk-with-requires : tie.Need-walk-with-requires
-walk-with-requires c κs = search (no-walk, walk-long, walk-fit, walk-unfit, needs)
+walk-with-requires c κs = search (walk-long, walk-fit, walk-unfit, needs)
 
 enum-told : tie.Need-enum-told
-enum-told c = search (no-walk, walk-long, walk-fit, walk-unfit, needs)
+enum-told c = search (walk-long, walk-fit, walk-unfit, needs)
 
 refuse-requires-2 : tie.Need-refuse-requires-2
-refuse-requires-2 c κs = search (no-walk, walk-long, walk-fit, walk-unfit, needs)
+refuse-requires-2 c κs = search (walk-long, walk-fit, walk-unfit, needs)
 
 same-length : tie.Need-same-length
-same-length c = search (no-walk, walk-long, walk-fit, walk-unfit, needs)
+same-length c = search (walk-long, walk-fit, walk-unfit, needs)
 
 same-length-2 : tie.Need-same-length-2
-same-length-2 c = search (no-walk, walk-long, walk-fit, walk-unfit, needs)
+same-length-2 c = search (walk-long, walk-fit, walk-unfit, needs)
 
 same-length-3 : tie.Need-same-length-3
-same-length-3 c = search (no-walk, walk-long, walk-fit, walk-unfit, needs)
+same-length-3 c = search (walk-long, walk-fit, walk-unfit, needs)
 
 returns-2 : tie.Need-returns-2
-returns-2 c = search (no-walk, walk-long, walk-fit, walk-unfit, needs)
+returns-2 c = search (walk-long, walk-fit, walk-unfit, needs)
 
 returns-3 : tie.Need-returns-3
-returns-3 c = search (no-walk, walk-long, walk-fit, walk-unfit, needs)
+returns-3 c = search (walk-long, walk-fit, walk-unfit, needs)
 
 pub walk-spec : {M : Type 1} → statement M
 walk-spec =

@@ -1,0 +1,4 @@
+pub mod CasesLaws
+pub mod DecimalLaws
+pub mod Lines
+pub mod LinesLaws

@@ -1,4 +1,0 @@
-pub mod PlacingLaws
-pub mod Same
-pub mod SameLaws
-pub mod SameTheorem

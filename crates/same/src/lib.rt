@@ -1,1 +1,0 @@
-// What reports of alike messages share: theorems alone.
