@@ -3,15 +3,13 @@ use Prim.Native.Nat.{ℕ, _+_, min}
 use mathlib.Core.Path.{_≡_, refl, sym, ap, _∙_}
 use mathlib.Core.List.{List}
 use mathlib.Core.Bool.{Bool, true, false, not, _&&_, _||_}
-use lib.ListN.{drop}
 use lib.Dec.{eqb}
 use borrow.Author.Tests.{eq-eqb, ne-eqb}
 use Rattle.segments.specs.Classes.{if}
 use Rattle.service.specs.declared.Service.{Service}
-use Rattle.parts.specs.Parts.{lex, valueOf}
 use Rattle.values.specs.declared.Amount.{Amount}
 use Rattle.values.specs.declared.Amount.the-variants.{Of, Not}
-use Rattle.values.specs.Values.{valueIn, valueFrom, codeFrom, codeOf, amountOf, sameList, isCapitals}
+use Rattle.values.specs.Values.{valueIn, codeFrom, codeOf, amountOf, sameList, isCapitals}
 use Rattle.values.specs.TextLaws.{says-code}
 use Rattle.faults.specs.declared.First.{First}
 use Rattle.faults.specs.declared.First.the-variants as first
@@ -28,24 +26,18 @@ use Rattle.amounts.specs.declared.Amounts.{Amounts}
 use Rattle.amounts.specs.Steps.{addStep, heldInner, rule23, rule24, rule25, rule26, comesBy, heldStep, firstStep, sumsStep, endedBy, orderOf, noOrder, amountsOf, sumsStart, heldOf, sumsOf, sumsClose, ownAt, orderEnded, amountsClose, withForm, exchanged, paid, baseBy, basesBy}
 
 -- ---- values
-module _ (a : Amount) (p : ℕ) (v : Service) (m l : List ℕ) (e : valueOf (lex v false (drop p m)) ≡ l) (c : a ≡ amountOf (valueFrom v p m)) where
-  is-by : a ≡ amountOf l
-  is-by = c ∙ ap amountOf e
-
+module _ (a : Amount) (l : List ℕ) (c : a ≡ amountOf l) where
   pub formed-so : (n : ℕ) → a ≡ Of n → true ≡ isOf (amountOf l)
-  formed-so n q = ap isOf (sym q ∙ is-by)
+  formed-so n q = ap isOf (sym q ∙ c)
 
   pub formed-not : a ≡ Not → false ≡ isOf (amountOf l)
-  formed-not q = ap isOf (sym q ∙ is-by)
+  formed-not q = ap isOf (sym q ∙ c)
 
   pub worth-of : (n : ℕ) → a ≡ Of n → n ≡ worth (amountOf l)
-  worth-of n q = ap worth (sym q ∙ is-by)
+  worth-of n q = ap worth (sym q ∙ c)
 
   pub worth-not : a ≡ Not → 0 ≡ worth (amountOf l)
-  worth-not q = ap worth (sym q ∙ is-by)
-
-pub same-by : (v : Service) (m k l : List ℕ) (p q : ℕ) (r : Bool) → valueOf (lex v false (drop p m)) ≡ k → valueOf (lex v false (drop q m)) ≡ l → r ≡ sameList (valueFrom v p m) (valueFrom v q m) → r ≡ sameList k l
-same-by v m k l p q r a b c = c ∙ rw (a, b)
+  worth-not q = ap worth (sym q ∙ c)
 
 module _ (x : ℕ) (l : List ℕ) (e : x ≡ codeOf l) where
   pub exchange-by : eqb x 79159 ≡ says l "57"

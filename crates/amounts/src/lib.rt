@@ -2,7 +2,7 @@
 ghost use Prim.Native.Nat.{_+_, min};
 ghost use mathlib.Core.Path.{_≡_};
 ghost use mathlib.Core.Bool.{true, false, not, _&&_, _||_};
-ghost use Rattle.values.specs.Values.{amountOf, sameList, valueIn};
+ghost use Rattle.values.specs.Values.{amountOf, valueIn};
 ghost use Rattle.values.specs.Text.{says};
 ghost use Rattle.message.specs.Segs.{segAt};
 ghost use Rattle.message.specs.Rules.{isOf, worth, capitals, firstHolds, secondHolds, cuxHolds};
@@ -11,6 +11,7 @@ ghost use Rattle.amounts.specs.Steps.{orderOf, sumsOf, sumsStart, sumsSt
 use faults::First;
 use service::Service;
 use values::Amount;
+use values::codes;
 
 // An order from its own MOA on, if one came: the MOA's number and where it begins, whether a CUX came, and the sum of its payments.
 pub struct Order {
@@ -29,12 +30,6 @@ pub struct Amounts {
     pub first25: First,
     pub first26: First,
 }
-
-const NINE: u64 = 0x0139;
-
-const FIFTY_SEVEN: u64 = 0x0001_3537;
-
-const EMPTY: u64 = 1;
 
 // An order whose MOA has not come.
 fn no_order() -> Order
@@ -66,20 +61,18 @@ pub fn start() -> Amounts
 fn is_formed(m: &[u8], v: Service, at: usize) -> bool
     ensures { λ r. ⌜ r ≡ isOf (amountOf (valueIn v at (now (m .entry)) 1 1)) ⌝ }
 {
-    let p = parts::component(m, at, v, 1, 1);
-    let a = values::amount_at(m, p, v);
-    match a {
+    let amount = values::amount_in(m, at, v, 1, 1);
+    match amount {
         Amount::Of(_) => true,
         Amount::Not => false,
     }
 }
 
 // The amount of the MOA at `at`. One without the form counts 0.
-fn worth_at(m: &[u8], v: Service, at: usize) -> u64
+pub fn worth_at(m: &[u8], v: Service, at: usize) -> u64
     ensures { λ r. ⌜ r ≡ worth (amountOf (valueIn v at (now (m .entry)) 1 1)) ⌝ }
 {
-    let p = parts::component(m, at, v, 1, 1);
-    let a = values::amount_at(m, p, v);
+    let a = values::amount_in(m, at, v, 1, 1);
     match a {
         Amount::Of(n) => n,
         Amount::Not => 0,
@@ -90,7 +83,7 @@ fn worth_at(m: &[u8], v: Service, at: usize) -> u64
 fn is_exchange(m: &[u8], v: Service, at: usize) -> bool
     ensures { λ r. ⌜ r ≡ says (valueIn v at (now (m .entry)) 1 0) "57" ⌝ }
 {
-    values::code_in(m, at, v, 1, 0) == FIFTY_SEVEN
+    values::code_in(m, at, v, 1, 0) == codes::FIFTY_SEVEN
 }
 
 // Whether it is 9 or 57.
@@ -98,7 +91,7 @@ fn has_qualifier(m: &[u8], v: Service, at: usize) -> bool
     ensures { λ r. ⌜ r ≡ says (valueIn v at (now (m .entry)) 1 0) "9" || says (valueIn v at (now (m .entry)) 1 0) "57" ⌝ }
 {
     let code = values::code_in(m, at, v, 1, 0);
-    truth::either(code == NINE, code == FIFTY_SEVEN)
+    truth::either(code == codes::NINE, code == codes::FIFTY_SEVEN)
 }
 
 // Whether the currency of the MOA at `at` is three capitals.
@@ -108,32 +101,23 @@ fn has_currency(m: &[u8], v: Service, at: usize) -> bool
     values::is_capitals(values::code_in(m, at, v, 1, 2))
 }
 
-// Whether component `c` of element `e` of the segment at `at` is the component `d` of the first element of the one at `own`.
-fn same_in(m: &[u8], v: Service, at: usize, e: usize, c: usize, own: usize, d: usize) -> bool
-    ensures { λ r. ⌜ r ≡ sameList (valueIn v at (now (m .entry)) e c) (valueIn v own (now (m .entry)) 1 d) ⌝ }
-{
-    let p = parts::component(m, at, v, e, c);
-    let q = parts::component(m, own, v, 1, d);
-    values::same_value(m, p, q, v)
-}
-
 // A rate base is 1, 100 or 1000.
 fn is_base(code: u64) -> bool
     ensures { λ r. ⌜ r ≡ baseBy code ⌝ }
 {
-    let short = truth::either(code == 0x0131, code == 0x0131_3030);
-    truth::either(short, code == 0x0001_3130_3030)
+    let short = truth::either(code == codes::ONE, code == codes::HUNDRED);
+    truth::either(short, code == codes::THOUSAND)
 }
 
 // At most one of the two bases is given, and only with a rate.
 fn bases_hold(a: u64, b: u64, rate: u64) -> bool
     ensures { λ r. ⌜ r ≡ basesBy a b rate ⌝ }
 {
-    let none = truth::both(a == EMPTY, b == EMPTY);
-    let second = truth::both(a == EMPTY, is_base(b));
-    let first = truth::both(is_base(a), b == EMPTY);
+    let none = truth::both(a == codes::EMPTY, b == codes::EMPTY);
+    let second = truth::both(a == codes::EMPTY, is_base(b));
+    let first = truth::both(is_base(a), b == codes::EMPTY);
     let one = truth::either(second, first);
-    let rated = truth::both(rate != EMPTY, one);
+    let rated = truth::both(rate != codes::EMPTY, one);
     truth::either(none, rated)
 }
 
@@ -142,8 +126,8 @@ fn names_own(m: &[u8], v: Service, at: usize, own: usize) -> bool
     ensures { λ r. ⌜ r ≡ firstHolds (valueIn v own (now (m .entry)) 1 2) (valueIn v at (now (m .entry))) ⌝ }
 {
     let code = values::code_in(m, at, v, 1, 0);
-    let same = same_in(m, v, at, 1, 1, own, 2);
-    truth::both(code == 0x0132, same)
+    let same = values::same_in(m, at, v, 1, 1, own, 1, 2);
+    truth::both(code == codes::TWO, same)
 }
 
 // Whether it names another currency then.
@@ -152,9 +136,9 @@ fn names_other(m: &[u8], v: Service, at: usize, own: usize) -> bool
 {
     let code = values::code_in(m, at, v, 2, 0);
     let money = values::is_capitals(values::code_in(m, at, v, 2, 1));
-    let same = same_in(m, v, at, 2, 1, own, 2);
+    let same = values::same_in(m, at, v, 2, 1, own, 1, 2);
     let other = truth::isnt(same);
-    let third = truth::both(code == 0x0133, money);
+    let third = truth::both(code == codes::THREE, money);
     truth::both(third, other)
 }
 
@@ -319,12 +303,12 @@ fn added(st: Amounts, m: &[u8], v: Service, at: usize, nth: usize) -> Amounts
     let sum = add(o.sum, worth_at(m, v, at));
     let first23 = faults::keep(
         f23,
-        truth::either(idle, same_in(m, v, at, 1, 0, o.at, 0)),
+        truth::either(idle, values::same_in(m, at, v, 1, 0, o.at, 1, 0)),
         nth,
     );
     let first24 = faults::keep(
         f24,
-        truth::either(idle, same_in(m, v, at, 1, 2, o.at, 2)),
+        truth::either(idle, values::same_in(m, at, v, 1, 2, o.at, 1, 2)),
         nth,
     );
     Amounts {

@@ -7,12 +7,13 @@ use native.Mathlib.Omega.{arith}
 use lib.ListN.{length}
 use lib.Dec.{T, ltb, leb, eqb, ltb→lt, leb→le, eqb→eq}
 use borrow.Author.Tests.{eq-eqb, ne-eqb, eqb-true, eqb-false, lt-ltb, le-ltb}
+use Rattle.segments.specs.Classes.{alike}
 use Rattle.chart.specs.Chart.{Rows, none, row}
 use Rattle.chart.proofs.Theory.{and-left, and-right, or-cases, nots, T-true}
 use Rattle.chart.specs.Machine.{and, pick, owed}
 use Rattle.table.specs.Entries.{parentIn, required}
 use Rattle.chart.specs.Table.{Table, chartOf}
-use Rattle.chart.specs.Sound.{Sound, all-to, alike, nests, childless, heads}
+use Rattle.chart.specs.Sound.{Sound, all-to, nests, childless, heads}
 use Rattle.chart.specs.Columns.{tagOf, parentOf, statusOf, repeatsOf, endOf, reqOf, mostOf, firstOf, rowAt, Is, is-none, is-row, RowIs, Some}
 
 and-true : (b : Bool) → and b true ≡ b
@@ -37,7 +38,7 @@ pub owed-some : (b : Bool) (n : ℕ) → (n ≡ 0 → ⊥) → owed b n ≡ fals
 unfolding owed
 owed-some b n e = ap (λ (x : Bool). and b x) (ne-eqb n 0 e) ∙ and-false b
 
-alike-eq : (a b : Bool) → T (alike a b) → a ≡ b
+pub alike-eq : (a b : Bool) → T (alike a b) → a ≡ b
 alike-eq true true h = refl
 alike-eq true false h = absurd h
 alike-eq false true h = absurd h

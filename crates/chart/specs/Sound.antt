@@ -1,9 +1,10 @@
 -- The tests that a table passes by being computed; what follows from them is proved once for every table that passes.
-use mathlib.Core.Bool.{Bool, true, false, not}
+use mathlib.Core.Bool.{Bool, true, not}
 use mathlib.Core.List.{[], _∷_}
 use Prim.Native.Nat.{ℕ, zero, suc, _+_}
 use lib.Dec.{T, ltb, leb, eqb}
 use lib.ListN.{length}
+use Rattle.segments.specs.Classes.{alike}
 use Rattle.table.specs.Entries.{parentIn, required}
 use Rattle.chart.specs.Chart.{Rows, none, row}
 use Rattle.chart.specs.Machine.{and, or, only, detK, goodK, agree, guidesK, labels, closing}
@@ -16,10 +17,6 @@ use Rattle.chart.specs.Next.{nextRow}
 unfoldable pub all-to : ℕ → (ℕ → Bool) → Bool
 all-to zero P = true
 all-to (suc n) P = and (P n) (all-to n P)
-
-abbrev pub alike : Bool → Bool → Bool
-alike true b = b
-alike false b = not b
 
 -- nesting and order: the rows of the table from lo to hi are those of the tree
 unfoldable pub nests : Table → ℕ → ℕ → Rows → Bool

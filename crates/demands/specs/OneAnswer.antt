@@ -29,7 +29,7 @@ use Rattle.tally.specs.Tallied.{tallyOf}
 use Rattle.tally.specs.Places.{passed}
 use Rattle.message.specs.Segs.{segAt}
 use Rattle.rules.specs.Placed.{placedOn}
-use Rattle.message.specs.Rules.{paymulOf}
+use Rattle.message.specs.Rules.{worth, paymulOf}
 use Rattle.message.specs.Faults.{tellAll, leastOf}
 use Rattle.numbering.specs.declared.Numbering.{Numbering}
 use Rattle.numbering.specs.Steps.{numberingStart, numberingStep}
@@ -96,12 +96,12 @@ pub record OneAnswer : Type 0 where
   pub parts-token-at : (s : List ℕ) (i : ℕ) (v : Service) → OnlyIs (tokenAt v i (drop i s))
   pub parts-component : (s : List ℕ) (at : ℕ) (v : Service) (e c : ℕ) → OnlyUpTo (valueFound v s) (λ r. valueFound v s r ≡ valueAt (elements (lex v false (drop at s))) e c)
   -- values
-  pub values-same-value : (s : List ℕ) (a b : ℕ) (v : Service) → OnlyIs (sameList (valueFrom v a s) (valueFrom v b s))
-  pub values-value-len : (s : List ℕ) (at : ℕ) (v : Service) → OnlyIs (length (valueFrom v at s))
   pub values-code-at : (s : List ℕ) (at : ℕ) (v : Service) → OnlyIs (codeOf (valueFrom v at s))
-  pub values-amount-at : (s : List ℕ) (at : ℕ) (v : Service) → OnlyIs (amountOf (valueFrom v at s))
   pub values-is-capitals : (code : ℕ) → OnlyIs (isCapitals code)
   pub values-code-in : (s : List ℕ) (at : ℕ) (v : Service) (e c : ℕ) → OnlyIs (codeOf (valueIn v at s e c))
+  pub values-length-in : (s : List ℕ) (at : ℕ) (v : Service) (e c : ℕ) → OnlyIs (length (valueIn v at s e c))
+  pub values-amount-in : (s : List ℕ) (at : ℕ) (v : Service) (e c : ℕ) → OnlyIs (amountOf (valueIn v at s e c))
+  pub values-same-in : (s : List ℕ) (at : ℕ) (v : Service) (e c other f d : ℕ) → OnlyIs (sameList (valueIn v at s e c) (valueIn v other s f d))
   pub values-number-is : (s : List ℕ) (at : ℕ) (v : Service) (e c n : ℕ) → OnlyIs (isNumber (numberOf (valueIn v at s e c)) n)
   -- interchange
   pub interchange-refuse : (number : ℕ) → OnlyIs (refusal number)
@@ -138,6 +138,7 @@ pub record OneAnswer : Type 0 where
   pub numbering-step : (st : Numbering) (m : List ℕ) (v : Service) (at nth row orders : ℕ) → OnlyIs (numberingStep orders st (segAt v m nth row at))
   -- amounts
   pub amounts-start : OnlyIs sumsStart
+  pub amounts-worth-at : (m : List ℕ) (v : Service) (at : ℕ) → OnlyIs (worth (amountOf (valueIn v at m 1 1)))
   pub amounts-step : (st : Amounts) (m : List ℕ) (v : Service) (at nth row : ℕ)
       → Only (λ (r : Amounts). (sumsOf v m r ≡ sumsStep (segAt v m 0 23 0) (sumsOf v m st) (segAt v m nth row at)) × (r .order .at ≡ ownAt (st .order .at) row at))
   pub amounts-close : (st : Amounts) (m : List ℕ) (v : Service) → OnlyIs (amountsClose v m st)

@@ -8,6 +8,7 @@ ghost use Rattle.message.specs.Segs.{segAt};
 ghost use Rattle.details.specs.Steps.{commonOf, groupOf, commonComes, groupHolds, groupComes, detailsOf, detailsStart, detailsStep, detailsClose, withOrder, groupEnded};
 use faults::First;
 use service::Service;
+use values::codes;
 
 // An order: whether it is one, whether it has an SG10, and the first PRC of an SG16 in it.
 pub struct Common {
@@ -69,10 +70,10 @@ fn code_holds(code: u64, text: bool, documents: bool) -> bool
 {
     let silent = truth::isnt(text);
     let bare = truth::isnt(documents);
-    let two = truth::either(code == 0x0139, code == 0x0001_3130);
-    let alone = three(code == 0x0138, documents, silent);
+    let two = truth::either(code == codes::NINE, code == codes::TEN);
+    let alone = three(code == codes::EIGHT, documents, silent);
     let both = three(two, documents, text);
-    let told = three(code == 0x0001_3131, text, bare);
+    let told = three(code == codes::ELEVEN, text, bare);
     let first = truth::either(alone, both);
     truth::either(first, told)
 }

@@ -9,8 +9,7 @@ use borrow.Author.Tests.{eq-eqb, ne-eqb}
 use Rattle.service.specs.declared.Service.{Service}
 use Rattle.segments.specs.Classes.{if}
 use Rattle.segments.specs.SegmentList.{Piece, finished, unfinished, Mode, gap, first as initial, inside, held, after, ends, startIn, emit, left, pieces, segmentsFrom}
-use Rattle.parts.specs.Lex.{lex, valueOf}
-use Rattle.values.specs.Values.{valueFrom, valueIn, sameList, numberOf, isNumber}
+use Rattle.values.specs.Values.{valueIn, sameList, numberOf, isNumber}
 use Rattle.values.specs.Text.{text, says}
 use Rattle.values.specs.TextLaws.{same-eq}
 use Rattle.interchange.specs.declared.Refusal.{Refusal}
@@ -76,21 +75,18 @@ module _ (v : Service) (s : List ℕ) (first end m z : ℕ) (b : Bool) (c : b �
   unfolding closingNumber
   closing-count e = simp (sym c ∙ e)
 
-  module _ (e : b ≡ true) (p q : ℕ) (f : valueOf (lex v false (drop p s)) ≡ valueIn v first s 5 0) (g : valueOf (lex v false (drop q s)) ≡ valueIn v end s 2 0) (d : Bool) (r : d ≡ sameList (valueFrom v p s) (valueFrom v q s)) where
-    same-is : sameList (valueIn v first s 5 0) (valueIn v end s 2 0) ≡ d
-    same-is = rw (← f, ← g) (sym r)
-
+  module _ (e : b ≡ true) (d : Bool) (r : d ≡ sameList (valueIn v first s 5 0) (valueIn v end s 2 0)) where
     pub closing-reference : d ≡ false → 6 ≡ closingNumber v s first end m z
     unfolding closingNumber
-    closing-reference h = simp (sym c ∙ e, same-is, h)
+    closing-reference h = simp (sym c ∙ e, sym r, h)
 
     pub closing-strays : d ≡ true → (z ≡ 0 → ⊥) → 7 ≡ closingNumber v s first end m z
     unfolding closingNumber
-    closing-strays h n = simp (sym c ∙ e, same-is, h, ne-eqb z 0 n)
+    closing-strays h n = simp (sym c ∙ e, sym r, h, ne-eqb z 0 n)
 
     pub closing-well : d ≡ true → z ≡ 0 → 0 ≡ closingNumber v s first end m z
     unfolding closingNumber
-    closing-well h n = simp (sym c ∙ e, same-is, h, eq-eqb z 0 n)
+    closing-well h n = simp (sym c ∙ e, sym r, h, eq-eqb z 0 n)
 
 -- ---- the whole
 together : (s : List ℕ) (v : Service) (first n m z : ℕ) → n ≡ closingNumber v s first (lastStart (length s) (bodyOf v s first)) (messageCount v s first) (strayCount v s first)

@@ -147,7 +147,7 @@ not-head g e h w = head-by g e h (eqb g UNH) refl w
 pub found-start : (v : Service) (s : List ℕ) (at p : ℕ) → p ≡ pastBreaks at (drop at s) → foundFrom v s at ≡ foundIn v s (segmentsFrom v s p)
 found-start v s at p e = ap (foundIn v s) (segments-after v s at p e)
 
-skip-cut : (p q : List Extent) (a t : ℕ) (l : List Piece) → p ≡ q → foundBy p (finished a t ∷ l) ≡ foundBy q l
+pub skip-cut : (p q : List Extent) (a t : ℕ) (l : List Piece) → p ≡ q → foundBy p (finished a t ∷ l) ≡ foundBy q l
 unfolding cutBefore cutAny
 skip-cut [] q a t l h = rw (← h) refl
 skip-cut (m ∷ p) q a t l h = rw (← h) refl

@@ -25,7 +25,7 @@ use Rattle.segments.specs.SyncLaws.{rest-nothing}
 use Rattle.segments.specs.ListLaws.{listBy, segments-at, list-nothing, list-finished, list-unfinished}
 use Rattle.parts.specs.Lex.{lex, valueOf}
 use Rattle.values.specs.Text.{text, sameList}
-use Rattle.values.specs.Values.{valueFrom, valueIn, codeOf}
+use Rattle.values.specs.Values.{valueIn, codeOf}
 use Rattle.interchange.specs.declared.Refusal.{Refusal}
 use Rattle.interchange.specs.declared.Opening.{Opening}
 use Rattle.interchange.specs.declared.Opening.the-variants.{Opens, Refused}
@@ -52,9 +52,9 @@ module _ (v : Service) (s : List ℕ) (i g : ℕ) (q : g ≡ codeOf (tagAt v s i
     unfolding isHeader
     header-version h = rw (unb-code (tagAt v s i), three-code (valueIn v i s 1 1), ← q, ← c) (simp (eq-eqb g UNB e, ne-eqb x 307 h))
 
-    pub header-reference : x ≡ 307 → (p n : ℕ) → valueOf (lex v false (drop p s)) ≡ valueIn v i s 5 0 → n ≡ length (valueFrom v p s) → (b : Bool) → b ≡ isReference n → b ≡ isHeader v s i
+    pub header-reference : x ≡ 307 → (n : ℕ) → n ≡ length (valueIn v i s 5 0) → (b : Bool) → b ≡ isReference n → b ≡ isHeader v s i
     unfolding isHeader
-    header-reference h p n d m b r = r ∙ ap isReference (m ∙ ap length d) ∙ rw (unb-code (tagAt v s i), three-code (valueIn v i s 1 1), ← q, ← c) (simp (eq-eqb g UNB e, eq-eqb x 307 h))
+    header-reference h n m b r = r ∙ ap isReference m ∙ rw (unb-code (tagAt v s i), three-code (valueIn v i s 1 1), ← q, ← c) (simp (eq-eqb g UNB e, eq-eqb x 307 h))
 
 headed-by : (v : Service) (s : List ℕ) (i : ℕ) (k : End) → headed v s (listBy (segmentBy s k) i (length s) (segmentsFrom v s)) ≡ isHeader v s i
 headed-by v s i (At t) = refl

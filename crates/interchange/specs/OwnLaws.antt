@@ -19,7 +19,7 @@ use Rattle.segments.specs.Sync.{shift}
 use Rattle.segments.specs.ResyncLaws.{gap-start, pieces-append, unbroken, gap-first}
 use Rattle.segments.specs.ClosedLaws.{segments-moved}
 use Rattle.segments.specs.ClearLaws.{upto, Clear, passed, upto-start, from-start}
-use Rattle.segments.specs.ListLaws.{list-finished, list-unfinished, list-nothing}
+use Rattle.segments.specs.ListLaws.{list-finished, list-unfinished, list-nothing, finished-first}
 use Rattle.parts.specs.Parts.{Tok, lex, valueOf}
 use Rattle.parts.specs.PartLaws.{tokens-in-part}
 use Rattle.values.specs.Text.{text, sameList, says}
@@ -224,10 +224,6 @@ unfolding members allFinished
 members-finished v s end = refl
 members-finished v s (at c t l x y w) = members-by (kindOf v s (finished c t) l) c t (members v s l) (members-finished v s w)
 
-one-finished : (a t : ℕ) (l : List Piece) → allFinished l ≡ true → allFinished (finished a t ∷ l) ≡ true
-unfolding allFinished
-one-finished a t l e = e
-
 pub message-finished : (v : Service) (s : List ℕ) (a t : ℕ) (l : List Piece) → a ≤ length s → segmentsAfter v s a ≡ finished a t ∷ l → segmentsAfter v s (t + 1) ≡ l → Placed v s l
     → allFinished (segmentsFrom v (bytesOf s (extentOf v s a l)) 0) ≡ true
 message-finished v s a t l h g y w =
@@ -237,7 +233,7 @@ message-finished v s a t l h g y w =
     ap (λ (x : ℕ). allFinished (segmentsFrom v (take (e - x) (drop x s)) 0)) (extent-starts v s a l)
     ∙ sym (shift-finished a (segmentsFrom v (take (e - a) (drop a s)) 0))
     ∙ ap allFinished (own-list v s a t l h g e (members v s l) (past-more v s a a t l h g e (members v s l) m))
-    ∙ one-finished a t (members v s l) (members-finished v s w)
+    ∙ finished-first a t (members v s l) (members-finished v s w)
 
 -- ---- whether it is closed, by its own bytes
 module _ (v : Service) (s : List ℕ) (a t i : ℕ) (m : Extent) (r : List Piece) (ih : closedAt v s (endsAt m) r ≡ isClosed m) where

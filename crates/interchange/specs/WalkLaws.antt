@@ -24,7 +24,7 @@ use Rattle.values.specs.Text.{says}
 use Rattle.interchange.specs.declared.Found.{Found}
 use Rattle.interchange.specs.declared.Found.the-variants as found
 use Rattle.interchange.specs.Messages.{tagAt, isNone, Kind, head, trailer, last, other, cut, kindBy, kindOf, Extent, unclosed, startsAt, endsAt, extentBy, extentOf, messagesBy, messagesOf, cutBefore, cutAny, foundOne, foundBy, foundIn, foundFrom}
-use Rattle.interchange.specs.FindLaws.{extent-starts}
+use Rattle.interchange.specs.FindLaws.{extent-starts, skip-cut}
 use Rattle.interchange.specs.Walk.{Walks, done, step, Own, none, also}
 
 -- finished segments, each read alike from its own first byte, and what follows it from the byte after its terminator
@@ -40,11 +40,6 @@ no-cut-before v s e (at i t l h g w) = no-cut-before v s e w
 
 whole : (m : Extent) (l : List Piece) → cutBefore (endsAt m) l ≡ false → foundOne m l ≡ found.Message (startsAt m) (endsAt m)
 whole m l h = rw h refl
-
-skip-cut : (p q : List Extent) (a t : ℕ) (l : List Piece) → p ≡ q → foundBy p (finished a t ∷ l) ≡ foundBy q l
-unfolding cutBefore cutAny
-skip-cut [] q a t l h = rw (← h) refl
-skip-cut (m ∷ p) q a t l h = rw (← h) refl
 
 pub record Both (v : Service) (s : List ℕ) (l : List Piece) : Type 0 where
   pub out : (p : ℕ) → foundFrom v s p ≡ foundIn v s l → Walks v s p (messagesOf v s l)
@@ -178,7 +173,7 @@ next-is v s i k c t n e = go (decLt i (length s))
         let q = segment-nothing v s i h ∙ sym c ∙ e in
         absurd (let z : _≡_ {A = ℕ} 0 1 = cc in omega arith)
 
-cut-here : (a e : ℕ) (l : List Piece) → l ≡ unfinished a e ∷ [] → cutAny l ≡ false → ⊥
+pub cut-here : (a e : ℕ) (l : List Piece) → l ≡ unfinished a e ∷ [] → cutAny l ≡ false → ⊥
 unfolding cutAny
 cut-here a e l q w = let x : true ≡ false = sym (ap cutAny q) ∙ w in let z : _≡_ {A = ℕ} 0 1 = cc in omega arith
 

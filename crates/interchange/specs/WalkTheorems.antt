@@ -1,7 +1,7 @@
 -- Walking an interchange that opens. Assumes nothing.
 use Prim.Native.Nat.{ℕ, _+_}
 use mathlib.Core.Path.{_≡_, refl, sym, _∙_, ap, subst}
-use mathlib.Core.List.{List, [], _∷_}
+use mathlib.Core.List.{List, _∷_}
 use mathlib.Core.Bool.{Bool, true, false}
 use lib.ListN.{length, drop}
 use lib.Dec.{T}
@@ -11,7 +11,7 @@ use Rattle.segments.specs.declared.Segment.{Segment}
 use Rattle.segments.specs.declared.Segment.the-variants as segment
 use Rattle.segments.specs.Bytes.{pastBreaks}
 use Rattle.segments.specs.Segments.{segmentAt}
-use Rattle.segments.specs.SegmentList.{Piece, finished, unfinished, segmentsFrom, segmentsAfter}
+use Rattle.segments.specs.SegmentList.{Piece, finished, segmentsFrom, segmentsAfter}
 use Rattle.segments.specs.ListLaws.{list-nothing, list-finished, list-unfinished, segments-after}
 use Rattle.values.specs.Text.{text, sameList, says}
 use Rattle.values.specs.TextLaws.{same-eq}
@@ -23,7 +23,7 @@ use Rattle.interchange.specs.Opened.{opened}
 use Rattle.interchange.specs.CloseLaws.{Tidy, nil, one, more, tidy-pieces}
 use Rattle.interchange.specs.SurveyLaws.{pastAt, past-finished}
 use Rattle.interchange.specs.Walk.{Walks, Own}
-use Rattle.interchange.specs.WalkLaws.{Placed, both, own, placed, settled, next-is, found-skip}
+use Rattle.interchange.specs.WalkLaws.{Placed, both, own, placed, settled, next-is, cut-here, found-skip}
 
 -- where the last segment is a finished UNZ, no segment is unfinished
 no-cut : (v : Service) (s : List ℕ) (b : Bool) {l : List Piece} → Tidy l → lastUnz v s b l ≡ true → cutAny l ≡ false
@@ -43,10 +43,6 @@ pub record Header (v : Service) (s : List ℕ) (first : ℕ) : Type 0 where
   pub tag : tagAt v s first ≡ text "UNB"
   pub body : Placed v s (segmentsFrom v s next)
 
-cut-list : (a e : ℕ) (l : List Piece) → l ≡ unfinished a e ∷ [] → cutAny l ≡ false → ⊥
-unfolding cutAny
-cut-list a e l q w = subst T (ap cutAny (sym q) ∙ w) tt
-
 header-tag : (v : Service) (s : List ℕ) (i t : ℕ) (l : List Piece) → headed v s (finished i t ∷ l) ≡ true → tagAt v s i ≡ text "UNB"
 unfolding isHeader
 header-tag v s i t l e = same-eq (tagAt v s i) (text "UNB") (and-left (says (tagAt v s i) "UNB") _ e)
@@ -65,7 +61,7 @@ header-by v s first h w (segment.Finished t n) c =
       tag = header-tag v s first t (segmentsFrom v s n) (ap (headed v s) (sym f) ∙ h);
       body = placed v s (segmentsFrom v s n) n refl (settled v s (t + 1) n x) (ap cutAny (sym f) ∙ w);
     }
-header-by v s first h w segment.Unfinished c = absurd (cut-list first (length s) (segmentsFrom v s first) (list-unfinished v s first segment.Unfinished c refl) w)
+header-by v s first h w segment.Unfinished c = absurd (cut-here first (length s) (segmentsFrom v s first) (list-unfinished v s first segment.Unfinished c refl) w)
 header-by v s first h w segment.Nothing c = absurd (subst T (sym (ap (headed v s) (sym (list-nothing v s first segment.Nothing c refl)) ∙ h)) tt)
 
 pub unb-other : (v : Service) (s : List ℕ) (i t : ℕ) (l : List Piece) → tagAt v s i ≡ text "UNB" → messagesOf v s (finished i t ∷ l) ≡ messagesOf v s l

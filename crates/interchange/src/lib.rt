@@ -10,14 +10,8 @@ ghost use Rattle.interchange.specs.SurveyLaws.{Surveyed, pastAt};
 use segments::Segment;
 use service::Characters;
 use service::Service;
+use values::codes;
 
-pub const UNB: u64 = 0x0155_4e42;
-
-pub const UNH: u64 = 0x0155_4e48;
-
-pub const UNT: u64 = 0x0155_4e54;
-
-pub const UNZ: u64 = 0x0155_4e5a;
 // The most bytes of an interchange.
 pub const MOST: usize = 1048576;
 
@@ -89,11 +83,9 @@ pub fn is_reference(n: usize) -> bool
 fn is_header(s: &[u8], at: usize, v: Service) -> bool
     ensures { λ r. ⌜ r ≡ isHeader v (now (s .entry)) at ⌝ }
 {
-    if tag_at(s, at, v) == UNB {
-        if values::code_in(s, at, v, 1, 1) == 0x0133 {
-            let p = parts::component(s, at, v, 5, 0);
-            let n = values::value_len(s, p, v);
-            return is_reference(n);
+    if tag_at(s, at, v) == codes::UNB {
+        if values::code_in(s, at, v, 1, 1) == codes::THREE {
+            return is_reference(values::length_in(s, at, v, 5, 0));
         }
     }
     false
@@ -109,7 +101,7 @@ fn ends_with_unz(s: &[u8], at: usize, v: Service) -> bool
         let g = segments::segment_at(s, i, v);
         match g {
             Segment::Finished(_, next) => {
-                last = tag_at(s, i, v) == UNZ;
+                last = tag_at(s, i, v) == codes::UNZ;
                 i = next;
             }
             Segment::Unfinished => {
@@ -163,7 +155,7 @@ pub fn open(s: &[u8]) -> Opening
 fn is_end(s: &[u8], tag: u64, next: usize) -> bool
     ensures { λ r. ⌜ r ≡ isEnd (now (s .entry)) tag next ⌝ }
 {
-    if tag == UNZ {
+    if tag == codes::UNZ {
         return s.len() <= next;
     }
     false
@@ -179,10 +171,10 @@ fn find_end(s: &[u8], start: usize, from: usize, v: Service) -> Found
         match g {
             Segment::Finished(t, next) => {
                 let tag = tag_at(s, i, v);
-                if tag == UNT {
+                if tag == codes::UNT {
                     return Found::Message(start, t + 1);
                 }
-                if tag == UNH {
+                if tag == codes::UNH {
                     return Found::Message(start, i);
                 }
                 if is_end(s, tag, next) {
@@ -209,7 +201,7 @@ pub fn find(s: &[u8], at: usize, v: Service) -> Found
         let g = segments::segment_at(s, i, v);
         match g {
             Segment::Finished(_, next) => {
-                if tag_at(s, i, v) == UNH {
+                if tag_at(s, i, v) == codes::UNH {
                     return find_end(s, i, next, v);
                 }
                 i = next;
@@ -249,11 +241,11 @@ fn survey_of(s: &[u8], at: usize, v: Service) -> Survey
                 end: i,
             };
         }
-        if tag == UNH {
+        if tag == codes::UNH {
             messages += 1;
             inside = true;
         } else if inside {
-            inside = tag != UNT;
+            inside = tag != codes::UNT;
         } else {
             strays += 1;
         }
@@ -267,9 +259,7 @@ fn closing_number(s: &[u8], first: usize, found: Survey, v: Service) -> u32
 {
     let end = found.end;
     if values::number_is(s, end, v, 1, 0, found.messages) {
-        let p = parts::component(s, first, v, 5, 0);
-        let q = parts::component(s, end, v, 2, 0);
-        if values::same_value(s, p, q, v) {
+        if values::same_in(s, first, v, 5, 0, end, 2, 0) {
             if found.strays == 0 {
                 return 0;
             }

@@ -9,10 +9,7 @@ use lib.ListN.{length, take, drop, set, length-drop}
 use borrow.Author.Tests.{eq-eqb, ne-eqb}
 use Rattle.service.specs.declared.Service.{Service}
 use Rattle.segments.specs.Classes.{if}
-use Rattle.parts.specs.Lex.{lex, valueOf}
-use Rattle.values.specs.declared.Amount.{Amount}
-use Rattle.values.specs.declared.Amount.the-variants.{Of, Not}
-use Rattle.values.specs.Values.{amountOf, valueFrom}
+use Rattle.values.specs.Values.{amountOf}
 use Rattle.lent.specs.Kept.{Kept}
 use Rattle.lent.specs.KeptLaws.{kept-start, kept-set}
 use Rattle.lent.specs.Over.{over, Written}
@@ -33,17 +30,7 @@ use Rattle.listing.specs.Listing.{totalsAfter}
 use Rattle.listing.specs.ListingLaws.{totals-room}
 use Rattle.listing.specs.Steps.{totalAt, TotalPut, total, other, full}
 
--- ---- the amount of one MOA
-module _ (a : Amount) (p : ℕ) (v : Service) (m l : List ℕ) (e : valueOf (lex v false (drop p m)) ≡ l) (c : a ≡ amountOf (valueFrom v p m)) where
-  worth-by : worth a ≡ worth (amountOf l)
-  worth-by = ap worth (c ∙ ap amountOf e)
-
-  pub worth-of : (n : ℕ) → a ≡ Of n → n ≡ worth (amountOf l)
-  worth-of n q = rw q at worth-by
-
-  pub worth-not : a ≡ Not → 0 ≡ worth (amountOf l)
-  worth-not q = rw q at worth-by
-
+-- ---- one total
 pub total-put : (v : Service) (m : List ℕ) (i r k x : ℕ) (t : List ℕ) → r ≡ rowOf MOA5 → k < length t → x ≡ totalAt v m i → TotalPut v m i r k t (set t k x) (k + 1)
 total-put v m i r k x t q h e = subst (λ (y : ℕ). TotalPut v m i r k t (set t k y) (k + 1)) (sym e) (total q h)
 

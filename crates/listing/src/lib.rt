@@ -4,22 +4,9 @@ ghost use Prim.Native.Nat.{_≤_};
 ghost use lib.ListN.{length};
 ghost use Rattle.chart.specs.Paymul.{PAYMUL};
 ghost use Rattle.listing.specs.Listing.{rowsAfter, startsAfter, totalsAfter};
-ghost use Rattle.listing.specs.Steps.{totalAt, TotalPut};
+ghost use Rattle.listing.specs.Steps.{TotalPut};
 use service::Service;
 use table::COLUMNS;
-use values::Amount;
-
-// The amount of the MOA at `at`; an amount without the form counts 0.
-fn total_at(m: &[u8], v: Service, at: usize) -> u64
-    ensures { λ r. ⌜ r ≡ totalAt v (now (m .entry)) at ⌝ }
-{
-    let p = parts::component(m, at, v, 1, 1);
-    let a = values::amount_at(m, p, v);
-    match a {
-        Amount::Of(x) => x,
-        Amount::Not => 0,
-    }
-}
 
 // The row on a table and the start of each of the first `count` segments; nothing where a list is too short for them.
 fn put_segments_on(
@@ -73,7 +60,7 @@ fn put_total(m: &[u8], v: Service, at: usize, row: usize, k: usize, totals: &mut
 {
     if row == chart::ORDER_MOA {
         if k < totals.len() {
-            let x = total_at(m, v, at);
+            let x = amounts::worth_at(m, v, at);
             totals[k] = x;
             return k + 1;
         }

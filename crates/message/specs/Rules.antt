@@ -5,7 +5,7 @@ use mathlib.Core.List.{List, [], _∷_, _++_, map}
 use mathlib.Core.Bool.{Bool, true, false, not, _&&_, _||_}
 use lib.ListN.{length}
 use lib.Dec.{eqb, leb}
-use Rattle.segments.specs.Classes.{if}
+use Rattle.segments.specs.Classes.{if, alike}
 use Rattle.values.specs.declared.Amount.{Amount}
 use Rattle.values.specs.declared.Amount.the-variants.{Of, Not}
 use Rattle.values.specs.Values.{codeOf, sameList, numberOf, isNumber, amountOf, isCapitals}
@@ -42,11 +42,6 @@ count t ss = length (those t ss)
 unfoldable pub some : (Seg → Bool) → List Seg → Bool
 some t [] = false
 some t (s ∷ ss) = t s || some t ss
-
--- "exactly if"
-abbrev pub alike : Bool → Bool → Bool
-alike true b = b
-alike false b = not b
 
 -- the segment where something does not hold, and all of some segments where a test does not
 abbrev pub unless : Bool → Seg → List ℕ

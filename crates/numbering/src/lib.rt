@@ -10,6 +10,7 @@ ghost use Rattle.message.specs.ValueLaws.{most};
 ghost use Rattle.numbering.specs.Steps.{numberingStart, numberingStep, lineTaken, sequenceTaken, controlTaken};
 use faults::First;
 use service::Service;
+use values::codes;
 
 // The number of the LIN last seen.
 pub struct LineNumber(pub u64);
@@ -121,7 +122,7 @@ fn sequence(st: Numbering, m: &[u8], v: Service, at: usize, nth: usize) -> Numbe
 fn control_holds(m: &[u8], v: Service, at: usize, orders: u64) -> bool
     ensures { λ r. ⌜ r ≡ not (says (valueIn v at (now (m .entry)) 1 0) "2") || writes (valueIn v at (now (m .entry)) 1 1) orders ⌝ }
 {
-    if values::code_in(m, at, v, 1, 0) == 0x0132 {
+    if values::code_in(m, at, v, 1, 0) == codes::TWO {
         return values::number_is(m, at, v, 1, 1, orders);
     }
     true

@@ -6,7 +6,7 @@ use mathlib.Core.List.{List}
 use mathlib.Core.Bool.{Bool, true, false, not, _&&_, _||_}
 use lib.Dec.{eqb, leb}
 use borrow.Author.Tests.{eq-eqb, ne-eqb}
-use Rattle.segments.specs.Classes.{if}
+use Rattle.segments.specs.Classes.{if, alike}
 use Rattle.service.specs.declared.Service.{Service}
 use Rattle.values.specs.Values.{valueIn, codeFrom, codeOf}
 use Rattle.values.specs.TextLaws.{says-code}
@@ -16,7 +16,7 @@ use Rattle.faults.specs.Firsts.{lesser, placeUnless}
 use Rattle.faults.specs.FirstsLaws.{lesser-last}
 use Rattle.values.specs.Text.{text, says}
 use Rattle.message.specs.Segs.{segAt}
-use Rattle.message.specs.Rules.{isEmpty, alike, orderHolds, paymentHolds}
+use Rattle.message.specs.Rules.{isEmpty, orderHolds, paymentHolds}
 use Rattle.message.specs.Run.{levelStep, close}
 use Rattle.message.specs.CountLaws.{moreIf, capStep, someStep}
 use Rattle.message.specs.ValueLaws.{empty-code}

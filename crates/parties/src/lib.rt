@@ -1,15 +1,16 @@
 // The parties of an order (level B) and of a payment (level C): rule 27.
 ghost use mathlib.Core.Path.{_≡_};
 ghost use mathlib.Core.Bool.{true, false, _&&_};
-ghost use Rattle.segments.specs.Classes.{if};
+ghost use Rattle.segments.specs.Classes.{if, alike as alikeOf};
 ghost use Rattle.faults.specs.Firsts.{lesser};
 ghost use Rattle.values.specs.Values.{valueIn};
 ghost use Rattle.message.specs.Segs.{segAt};
-ghost use Rattle.message.specs.Rules.{alike as alikeOf, orderHolds, paymentHolds};
+ghost use Rattle.message.specs.Rules.{orderHolds, paymentHolds};
 ghost use Rattle.message.specs.CountLaws.{moreIf};
 ghost use Rattle.parties.specs.Steps.{nameIn, bfHolds, levelB, levelC, orderFii, orderNad, paymentFii, paymentNad, orderComes, paymentComes, partiesStart, partiesStep, partiesClose, withOrder, withPayment, ended};
 use faults::First;
 use service::Service;
+use values::codes;
 
 // An order: its LIN, how many FII+OR, NAD+PL and NAD+OY it has (two stands for more), and whether an OR has a name.
 pub struct LevelB {
@@ -36,20 +37,6 @@ pub struct Parties {
     pub payment: LevelC,
     pub payments: First,
 }
-
-const OR: u64 = 0x0001_4f52;
-
-const PL: u64 = 0x0001_504c;
-
-const OY: u64 = 0x0001_4f59;
-
-const BF: u64 = 0x0001_4246;
-
-const PE: u64 = 0x0001_5045;
-
-const BE: u64 = 0x0001_4245;
-
-const EMPTY: u64 = 1;
 
 fn new_order(lin: First) -> LevelB
     ensures { λ r. ⌜ r ≡ levelB lin 0 false 0 0 ⌝ }
@@ -103,8 +90,8 @@ fn more_if(t: bool, n: u8) -> u8
 fn has_name(m: &[u8], v: Service, at: usize) -> bool
     ensures { λ r. ⌜ r ≡ nameIn (valueIn v at (now (m .entry))) ⌝ }
 {
-    if values::code_in(m, at, v, 2, 1) == EMPTY {
-        return values::code_in(m, at, v, 2, 2) != EMPTY;
+    if values::code_in(m, at, v, 2, 1) == codes::EMPTY {
+        return values::code_in(m, at, v, 2, 2) != codes::EMPTY;
     }
     true
 }
@@ -234,8 +221,8 @@ fn order_fii(o: LevelB, m: &[u8], v: Service, at: usize) -> LevelB
 {
     let lin = o.lin;
     let code = values::code_in(m, at, v, 1, 0);
-    let or = more_if(code == OR, o.or);
-    let named = name_if(o.named, code == OR, m, v, at);
+    let or = more_if(code == codes::OR, o.or);
+    let named = name_if(o.named, code == codes::OR, m, v, at);
     LevelB {
         lin,
         or,
@@ -251,8 +238,8 @@ fn order_nad(o: LevelB, m: &[u8], v: Service, at: usize) -> LevelB
 {
     let lin = o.lin;
     let code = values::code_in(m, at, v, 1, 0);
-    let pl = more_if(code == PL, o.pl);
-    let oy = more_if(code == OY, o.oy);
+    let pl = more_if(code == codes::PL, o.pl);
+    let oy = more_if(code == codes::OY, o.oy);
     LevelB {
         lin,
         or: o.or,
@@ -268,8 +255,8 @@ fn payment_fii(p: LevelC, m: &[u8], v: Service, at: usize) -> LevelC
 {
     let seq = p.seq;
     let code = values::code_in(m, at, v, 1, 0);
-    let bf = more_if(code == BF, p.bf);
-    let named = name_if(p.named, code == BF, m, v, at);
+    let bf = more_if(code == codes::BF, p.bf);
+    let named = name_if(p.named, code == codes::BF, m, v, at);
     LevelC {
         seq,
         bf,
@@ -285,8 +272,8 @@ fn payment_nad(p: LevelC, m: &[u8], v: Service, at: usize) -> LevelC
 {
     let seq = p.seq;
     let code = values::code_in(m, at, v, 1, 0);
-    let pe = more_if(code == PE, p.pe);
-    let be = more_if(code == BE, p.be);
+    let pe = more_if(code == codes::PE, p.pe);
+    let be = more_if(code == codes::BE, p.be);
     LevelC {
         seq,
         bf: p.bf,

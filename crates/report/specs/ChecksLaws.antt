@@ -59,8 +59,8 @@ unfolding text codeFrom
 typed-by v m u w x y z a b c r h1 h2 h3 h4 h5 h6 h7 h8 =
     h8 ∙ rw (h7, h6, h5, h1, h2, h3, h4, says-code (valueIn v 0 m 2 0) "PAYMUL" refl, says-code (valueIn v 0 m 2 1) "D" refl, says-code (valueIn v 0 m 2 2) "96A" refl, says-code (valueIn v 0 m 2 3) "UN" refl)
 
-pub header-by : (v : Service) (m : List ℕ) (g p n : ℕ) (t u r : Bool) → g ≡ codeOf (valueFrom v 0 m) → valueOf (lex v false (drop p m)) ≡ valueIn v 0 m 1 0 → n ≡ length (valueFrom v p m) → t ≡ isReference n → u ≡ eqb g 22367816 && t → r ≡ typed v m u → r ≡ headedAt v m
-header-by v m g p n t u r h1 h2 h3 h4 h5 h6 = h6 ∙ rw (h5, h4, h3, h2, h1, unh-code (valueFrom v 0 m))
+pub header-by : (v : Service) (m : List ℕ) (g n : ℕ) (t u r : Bool) → g ≡ codeOf (valueFrom v 0 m) → n ≡ length (valueIn v 0 m 1 0) → t ≡ isReference n → u ≡ eqb g 22367816 && t → r ≡ typed v m u → r ≡ headedAt v m
+header-by v m g n t u r h1 h2 h3 h4 h5 = h5 ∙ rw (h4, h3, h2, h1, unh-code (valueFrom v 0 m))
 
 -- the message begins with its first segment
 headed-by : (v : Service) (m : List ℕ) (l : List Piece) → nextStart (length m) l ≡ 0 → headed (map (rawOf v m) l) ≡ headedAt v m

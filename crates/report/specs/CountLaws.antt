@@ -8,7 +8,7 @@ use mathlib.Core.Bool.{Bool, true, false, not}
 use lib.ListN.{length, getD}
 use lib.Dec.{T, eqb, ltb}
 use borrow.Author.Tests.{eqb-true, ltb-true, eq-eqb, ne-eqb}
-use Rattle.segments.specs.Classes.{if}
+use Rattle.segments.specs.Classes.{if, alike}
 use Rattle.service.specs.declared.Service.{Service}
 use Rattle.chart.specs.Machine.{pick, rowsBy}
 use Rattle.table.specs.Entries.{linesFrom, within, text}
@@ -22,22 +22,16 @@ use Rattle.chart.specs.TagsLaws.{same-count}
 use Rattle.chart.specs.Paymul.{PAYMUL, size, table, chart, nextRow, rowsOf}
 use Rattle.chart.proofs.Guide.{rows-length}
 use Rattle.chart.specs.Sound.{all-to}
-use Rattle.chart.proofs.Nest.{at-each}
+use Rattle.chart.proofs.Nest.{alike-eq, at-each}
 use Rattle.chart.proofs.Paymul.{paymul-sound}
 use Rattle.chart.proofs.Whole.{placed-rows, placed-tags}
 use Rattle.message.specs.Segs.{Seg, segAt, segsFrom, segsOf, those}
-use Rattle.message.specs.Rules.{alike, count}
+use Rattle.message.specs.Rules.{count}
 
 -- how often a number stands in a list
 unfoldable pub times : ℕ → List ℕ → ℕ
 times n [] = 0
 times n (x ∷ l) = if (eqb x n) (suc (times n l)) (times n l)
-
-alike-eq : (a b : Bool) → T (alike a b) → a ≡ b
-alike-eq true true h = refl
-alike-eq true false h = absurd h
-alike-eq false true h = absurd h
-alike-eq false false h = refl
 
 -- THE COMPUTED TESTS: a group or segment of the tag LIN begins with row 17, and no other does; so SEQ and row 50
 lins : T (all-to size (λ r. alike (eqb (firstOf PAYMUL r) 17) (eqb (tagOf PAYMUL r) LIN)))

@@ -20,6 +20,7 @@ use interchange::Refusal;
 use segments::Segment;
 use service::Service;
 use tally::Tally;
+use values::codes;
 
 pub struct Counts {
     pub segments: usize,
@@ -70,10 +71,10 @@ fn is_paymul(m: &[u8], v: Service, unh: bool) -> bool
     let version = values::code_in(m, 0, v, 2, 1);
     let release = values::code_in(m, 0, v, 2, 2);
     let agency = values::code_in(m, 0, v, 2, 3);
-    let a = truth::both(unh, name == 0x0150_4159_4d55_4c);
-    let b = truth::both(a, version == 0x0144);
-    let c = truth::both(b, release == 0x0139_3641);
-    truth::both(c, agency == 0x0001_554e)
+    let a = truth::both(unh, name == codes::PAYMUL);
+    let b = truth::both(a, version == codes::D);
+    let c = truth::both(b, release == codes::NINETY_SIX_A);
+    truth::both(c, agency == codes::UN)
 }
 
 // Whether the first segment is a UNH with a reference of 1 to 14 bytes and the type.
@@ -81,9 +82,8 @@ fn has_header(m: &[u8], v: Service) -> bool
     ensures { λ r. ⌜ r ≡ headedAt v (now (m .entry)) ⌝ }
 {
     let tag = values::code_at(m, 0, v);
-    let p = parts::component(m, 0, v, 1, 0);
-    let n = values::value_len(m, p, v);
-    let unh = truth::both(tag == interchange::UNH, interchange::is_reference(n));
+    let n = values::length_in(m, 0, v, 1, 0);
+    let unh = truth::both(tag == codes::UNH, interchange::is_reference(n));
     is_paymul(m, v, unh)
 }
 

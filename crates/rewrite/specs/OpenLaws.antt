@@ -9,7 +9,8 @@ use lib.Dec.{eqb}
 use Rattle.service.specs.declared.Service.{Service}
 use Rattle.service.specs.declared.Characters.the-variants.{Fit}
 use Rattle.service.specs.Service.{plainService, beginsUna, charactersOf, among}
-use Rattle.segments.specs.SegmentList.{Piece, finished, gap, pieces, allFinished, segmentsFrom}
+use Rattle.segments.specs.SegmentList.{Piece, gap, pieces, allFinished, segmentsFrom}
+use Rattle.segments.specs.ListLaws.{finished-first}
 use Rattle.segments.specs.ResyncLaws.{gap-first}
 use Rattle.parts.specs.Parts.{lex, elements, valueAt}
 use Rattle.parts.specs.ValueLaws.{tag-value}
@@ -28,10 +29,6 @@ use Rattle.rewrite.specs.Plain.{valuesOf, isReleased, plainByte, plainVa
 use Rattle.rewrite.specs.ReadLaws.{plain-unbroken, segment-pieces, read-back}
 
 -- ---- every segment of plain bytes is finished
-finished-first : (a t : ℕ) (l : List Piece) → allFinished l ≡ true → allFinished (finished a t ∷ l) ≡ true
-unfolding allFinished
-finished-first a t l e = e
-
 none-open : (i : ℕ) → allFinished (pieces plainService gap 0 i []) ≡ true
 unfolding allFinished pieces
 none-open i = refl

@@ -1,6 +1,6 @@
 -- What a byte is to a reader of segments, as document 01, "Bytes to segments", says.
 use Prim.Native.Nat.{ℕ}
-use mathlib.Core.Bool.{Bool, true, false}
+use mathlib.Core.Bool.{Bool, true, false, not}
 use lib.Dec.{eqb}
 use Rattle.service.specs.declared.Service.{Service}
 use Rattle.segments.specs.declared.Class.{Class}
@@ -10,6 +10,11 @@ use Rattle.segments.specs.declared.Class.the-variants.{Plain, Comp, Elem
 abbrev pub if : {A : Type 0} → Bool → A → A → A
 if true a b = a
 if false a b = b
+
+-- "exactly if"
+abbrev pub alike : Bool → Bool → Bool
+alike true b = b
+alike false b = not b
 
 -- "component separator, element separator, .. release, .. terminator": what a byte is where no release stands before it
 unfoldable pub classOf : Service → ℕ → Class

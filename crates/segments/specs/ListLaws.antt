@@ -12,7 +12,7 @@ use Rattle.segments.specs.declared.End.the-variants.{At, None}
 use Rattle.segments.specs.declared.Segment.{Segment}
 use Rattle.segments.specs.declared.Segment.the-variants.{Finished, Unfinished, Nothing}
 use Rattle.segments.specs.Bytes.{if, endFrom, pastBreaks}
-use Rattle.segments.specs.SegmentList.{Piece, finished, unfinished, gap, first, emit, pieces, segmentsFrom, segmentsAfter}
+use Rattle.segments.specs.SegmentList.{Piece, finished, unfinished, gap, first, emit, pieces, segmentsFrom, segmentsAfter, allFinished}
 use Rattle.segments.specs.ResyncLaws.{gap-start}
 use Rattle.segments.specs.SyncLaws.{rest-skip, rest-at, rest-none, rest-nothing}
 use Rattle.segments.specs.Segments.{segmentBy, segmentAt}
@@ -44,6 +44,11 @@ module _ (v : Service) (s : List ℕ) (i : ℕ) (k : Segment) (c : k ≡ segment
 
   pub list-unfinished : k ≡ Unfinished → segmentsFrom v s i ≡ unfinished i (length s) ∷ []
   list-unfinished e = segments-at v s i ∙ rw (← c, e)
+
+-- all are finished, the first too
+pub finished-first : (a t : ℕ) (l : List Piece) → allFinished l ≡ true → allFinished (finished a t ∷ l) ≡ true
+unfolding allFinished
+finished-first a t l e = e
 
 -- from a position, "as though a terminator stood just before": past the breaks
 pub segments-after : (v : Service) (s : List ℕ) (i p : ℕ) → p ≡ pastBreaks i (drop i s) → segmentsAfter v s i ≡ segmentsFrom v s p

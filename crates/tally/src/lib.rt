@@ -11,12 +11,7 @@ ghost use Rattle.tally.specs.Tallied.{badBetween, oneIf, finishedOne, un
 use faults::First;
 use segments::Segment;
 use service::Service;
-
-pub const LIN: u64 = 0x014c_494e;
-
-pub const SEQ: u64 = 0x0153_4551;
-
-pub const UNT: u64 = 0x0155_4e54;
+use values::codes;
 
 pub struct Tally {
     pub bad: First,
@@ -73,12 +68,12 @@ fn count(t: Tally, m: &[u8], at: usize, end: usize, tag: u64) -> Tally
     let unt = t.unt;
     let now = bad_byte(m, at, end);
     let first = faults::earlier(bad, now);
-    let here = faults::keep(unt, tag != UNT, at);
+    let here = faults::keep(unt, tag != codes::UNT, at);
     Tally {
         bad: first,
         segments: t.segments + 1,
-        orders: count_if(tag == LIN, t.orders),
-        payments: count_if(tag == SEQ, t.payments),
+        orders: count_if(tag == codes::LIN, t.orders),
+        payments: count_if(tag == codes::SEQ, t.payments),
         unt: here,
     }
 }

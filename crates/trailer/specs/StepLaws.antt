@@ -1,13 +1,11 @@
 -- The code's ways through a step of the trailer. Assumes nothing.
 use Prim.Native.Nat.{ℕ}
-use mathlib.Core.Path.{_≡_, _∙_}
+use mathlib.Core.Path.{_≡_}
 use mathlib.Core.List.{List}
-use mathlib.Core.Bool.{Bool, false}
-use lib.ListN.{drop}
+use mathlib.Core.Bool.{Bool}
 use borrow.Author.Tests.{ne-eqb}
 use Rattle.service.specs.declared.Service.{Service}
-use Rattle.parts.specs.Parts.{lex, valueOf}
-use Rattle.values.specs.Values.{valueIn, valueFrom, sameList}
+use Rattle.values.specs.Values.{valueIn, sameList}
 use Rattle.faults.specs.declared.First.{First}
 use Rattle.faults.specs.Firsts.{lesser, placeUnless}
 use Rattle.message.specs.Segs.{segAt}
@@ -15,9 +13,6 @@ use Rattle.message.specs.Rules.{writes}
 use Rattle.message.specs.Run.{testStep}
 use Rattle.trailer.specs.declared.Trailer.{Trailer}
 use Rattle.trailer.specs.Steps.{trailerOf, trailerStep, taken}
-
-pub same-by : (v : Service) (m k l : List ℕ) (p q : ℕ) (r : Bool) → valueOf (lex v false (drop p m)) ≡ k → valueOf (lex v false (drop q m)) ≡ l → r ≡ sameList (valueFrom v p m) (valueFrom v q m) → r ≡ sameList k l
-same-by v m k l p q r a b c = c ∙ rw (a, b)
 
 pub taken-by : (n : ℕ) (l : List ℕ) (st : Trailer) (value : ℕ → ℕ → List ℕ) (nth : ℕ) (t u : Bool) (f g : First) → t ≡ writes (value 1 0) n → f ≡ lesser (st .first17) (placeUnless t nth) → u ≡ sameList (value 2 0) l → g ≡ lesser (st .first18) (placeUnless u nth)
     → trailerOf f g ≡ taken n l st value nth

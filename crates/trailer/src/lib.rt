@@ -1,6 +1,6 @@
 // The trailer: UNT's count is the number of segments, and its reference is UNH's: 17 and 18.
 ghost use mathlib.Core.Path.{_≡_};
-ghost use Rattle.values.specs.Values.{sameList, valueIn};
+ghost use Rattle.values.specs.Values.{valueIn};
 ghost use Rattle.message.specs.Segs.{segAt};
 ghost use Rattle.trailer.specs.Steps.{trailerStart, trailerStep, taken};
 use faults::First;
@@ -23,22 +23,14 @@ pub fn start() -> Trailer
     }
 }
 
-// Whether the reference of the UNT at `at` is that of the UNH, which begins the message.
-fn same_reference(m: &[u8], v: Service, at: usize) -> bool
-    ensures { λ r. ⌜ r ≡ sameList (valueIn v at (now (m .entry)) 2 0) (valueIn v 0 (now (m .entry)) 1 0) ⌝ }
-{
-    let p = parts::component(m, at, v, 2, 0);
-    let q = parts::component(m, 0, v, 1, 0);
-    values::same_value(m, p, q, v)
-}
-
+// The UNT at `at`, the nth segment. The UNH, whose reference it repeats, begins the message.
 fn held(st: Trailer, m: &[u8], v: Service, at: usize, nth: usize, segments: u64) -> Trailer
     ensures { λ r. ⌜ r ≡ taken segments (valueIn v 0 (now (m .entry)) 1 0) st (valueIn v at (now (m .entry))) nth ⌝ }
 {
     let f17 = st.first17;
     let f18 = st.first18;
     let first17 = faults::keep(f17, values::number_is(m, at, v, 1, 0, segments), nth);
-    let first18 = faults::keep(f18, same_reference(m, v, at), nth);
+    let first18 = faults::keep(f18, values::same_in(m, at, v, 2, 0, 0, 1, 0), nth);
     Trailer { first17, first18 }
 }
 

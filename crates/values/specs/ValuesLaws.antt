@@ -17,7 +17,7 @@ use Rattle.values.specs.declared.Next.{Next}
 use Rattle.values.specs.declared.Next.the-variants as next
 use Rattle.values.specs.declared.Number.{Number}
 use Rattle.values.specs.declared.Number.the-variants as number
-use Rattle.values.specs.Values.{valueFrom, nextBy, nextAt, sameList, digits, numberOf, isNumber, codeFrom, codeOf}
+use Rattle.values.specs.Values.{valueFrom, nextBy, nextAt, sameList, digits, numberOf, isNumber, codeFrom}
 
 -- ---- the next byte, by the token
 module _ (v : Service) (s : List ℕ) (i : ℕ) (k : Token) (c : k ≡ tokenAt v i (drop i s)) where
@@ -167,8 +167,11 @@ module _ (x : ℕ) (v : Service) (s : List ℕ) (i code : ℕ) (inv : x ≡ code
     code-more h g w f = rw f (code-on ∙ simp (le-ltb _ _ h, lt-ltb _ _ g))
 
 -- ---- by a value's position, or by its component and element
-pub code-at-value : (x p : ℕ) (v : Service) (s l : List ℕ) → valueOf (lex v false (drop p s)) ≡ l → x ≡ codeOf (valueFrom v p s) → x ≡ codeOf l
-code-at-value x p v s l e f = f ∙ ap codeOf e
+pub at-value : {A : Type 0} (says : List ℕ → A) (x : A) (p : ℕ) (v : Service) (s l : List ℕ) → valueOf (lex v false (drop p s)) ≡ l → x ≡ says (valueFrom v p s) → x ≡ says l
+at-value says x p v s l e f = f ∙ ap says e
+
+pub at-values : (r : Bool) (p q : ℕ) (v : Service) (s k l : List ℕ) → valueOf (lex v false (drop p s)) ≡ k → valueOf (lex v false (drop q s)) ≡ l → r ≡ sameList (valueFrom v p s) (valueFrom v q s) → r ≡ sameList k l
+at-values r p q v s k l a b c = c ∙ rw (a, b)
 
 module _ (k : Number) (p : ℕ) (v : Service) (s l : List ℕ) (n : ℕ) (e : valueOf (lex v false (drop p s)) ≡ l) (c : k ≡ numberOf (valueFrom v p s)) where
   number-is-by : isNumber k n ≡ isNumber (numberOf l) n

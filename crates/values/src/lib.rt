@@ -1,7 +1,11 @@
-// What the values of a segment say: compared, measured, read as codes, numbers and amounts. A value is given by the position where it begins.
+// What the values of a segment say: compared, measured, read as codes, numbers and amounts. A value is given by its segment, element and component, or by
+// the position where it begins.
 ghost use mathlib.Core.Path.{_≡_};
-ghost use lib.ListN.{length, take, drop};
+ghost use lib.ListN.{length};
 ghost use Rattle.values.specs.Values.{valueFrom, nextAt, sameList, numberOf, oneMore, partOf, wholeOf, fraction, amountOf, codeOf, isNumber, isCapital, isCapitals, valueIn};
+
+pub mod codes;
+
 use parts::Token;
 use service::Service;
 
@@ -41,7 +45,7 @@ fn next_at(s: &[u8], i: usize, v: Service) -> Next
 }
 
 // Whether the values at `a` and at `b` are the same.
-pub fn same_value(s: &[u8], a: usize, b: usize, v: Service) -> bool
+fn same_value(s: &[u8], a: usize, b: usize, v: Service) -> bool
     ensures { λ r. ⌜ r ≡ sameList (valueFrom v a (now (s .entry))) (valueFrom v b (now (s .entry))) ⌝ }
 {
     let mut i = a;
@@ -76,7 +80,7 @@ pub fn same_value(s: &[u8], a: usize, b: usize, v: Service) -> bool
 }
 
 // How many bytes the value at `at` has.
-pub fn value_len(s: &[u8], at: usize, v: Service) -> usize
+fn value_len(s: &[u8], at: usize, v: Service) -> usize
     ensures { λ r. ⌜ r ≡ length (valueFrom v at (now (s .entry))) ⌝ }
 {
     let mut i = at;
@@ -256,7 +260,7 @@ fn fraction_at(s: &[u8], at: usize, v: Service) -> Amount
 }
 
 // The thousandths that the value at `at` writes: 1 to 12 digits with no leading zero, and after a mark 1 to 3 digits.
-pub fn amount_at(s: &[u8], at: usize, v: Service) -> Amount
+fn amount_at(s: &[u8], at: usize, v: Service) -> Amount
     ensures { λ r. ⌜ r ≡ amountOf (valueFrom v at (now (s .entry))) ⌝ }
 {
     let w = whole_at(s, at, v);
@@ -305,7 +309,41 @@ pub fn code_in(s: &[u8], at: usize, v: Service, e: usize, c: usize) -> u64
     code_at(s, p, v)
 }
 
-// Whether component `c` of element `e` of the segment that begins at `at` writes the number `n`.
+// How many bytes that component has.
+pub fn length_in(s: &[u8], at: usize, v: Service, e: usize, c: usize) -> usize
+    ensures { λ r. ⌜ r ≡ length (valueIn v at (now (s .entry)) e c) ⌝ }
+{
+    let p = parts::component(s, at, v, e, c);
+    value_len(s, p, v)
+}
+
+// The thousandths that it writes.
+pub fn amount_in(s: &[u8], at: usize, v: Service, e: usize, c: usize) -> Amount
+    ensures { λ r. ⌜ r ≡ amountOf (valueIn v at (now (s .entry)) e c) ⌝ }
+{
+    let p = parts::component(s, at, v, e, c);
+    amount_at(s, p, v)
+}
+
+// Whether it is component `d` of element `f` of the segment that begins at `other`.
+pub fn same_in(
+    s: &[u8],
+    at: usize,
+    v: Service,
+    e: usize,
+    c: usize,
+    other: usize,
+    f: usize,
+    d: usize,
+) -> bool
+    ensures { λ r. ⌜ r ≡ sameList (valueIn v at (now (s .entry)) e c) (valueIn v other (now (s .entry)) f d) ⌝ }
+{
+    let p = parts::component(s, at, v, e, c);
+    let q = parts::component(s, other, v, f, d);
+    same_value(s, p, q, v)
+}
+
+// Whether it writes the number `n`.
 pub fn number_is(s: &[u8], at: usize, v: Service, e: usize, c: usize, n: u64) -> bool
     ensures { λ r. ⌜ r ≡ isNumber (numberOf (valueIn v at (now (s .entry)) e c)) n ⌝ }
 {

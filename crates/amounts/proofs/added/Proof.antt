@@ -8,7 +8,7 @@ use Rattle.amounts.proofs.added.Lts as lts
 use Rattle.amounts.proofs.add.Reads as add-reads
 use Rattle.truth.proofs.either.Reads as either-reads
 use Rattle.truth.proofs.isnt.Reads as isnt-reads
-use Rattle.amounts.proofs.same_in.Reads as same-in-reads
+use Rattle.values.proofs.same_in.Reads as same-in-reads
 use Rattle.amounts.proofs.worth_at.Reads as worth-at-reads
 use Rattle.faults.proofs.keep.Reads as keep-reads
 

@@ -5,14 +5,10 @@ use Rattle.amounts.proofs.is_formed.Statement.{statement}
 use Rattle.amounts.proofs.is_formed.Tie as tie
 use Rattle.amounts.proofs.is_formed.Reads as reads
 use Rattle.amounts.proofs.is_formed.Lts as lts
-use Rattle.parts.proofs.component.Reads as component-reads
-use Rattle.values.proofs.amount_at.Reads as amount-at-reads
+use Rattle.values.proofs.amount_in.Reads as amount-in-reads
 
-component-requires : tie.Need-component-requires
-component-requires c κs = search (formed-so, formed-not, needs)
-
-amount-at-requires : tie.Need-amount-at-requires
-amount-at-requires c κs = search (formed-so, formed-not, needs)
+amount-in-requires : tie.Need-amount-in-requires
+amount-in-requires c κs = search (formed-so, formed-not, needs)
 
 enum-told : tie.Need-enum-told
 enum-told c = search (formed-so, formed-not, needs)
@@ -29,4 +25,4 @@ returns-2 c = search (formed-so, formed-not, needs)
 pub is-formed-spec : {M : Type 1} → statement M
 is-formed-spec =
     tie.close
-    (tie.spec component-requires amount-at-requires enum-told enum-told-2 returns returns-2)
+    (tie.spec amount-in-requires enum-told enum-told-2 returns returns-2)

@@ -7,7 +7,7 @@ use Rattle.amounts.proofs.names_other.Reads as reads
 use Rattle.amounts.proofs.names_other.Lts as lts
 use Rattle.truth.proofs.both.Reads as both-reads
 use Rattle.truth.proofs.isnt.Reads as isnt-reads
-use Rattle.amounts.proofs.same_in.Reads as same-in-reads
+use Rattle.values.proofs.same_in.Reads as same-in-reads
 use Rattle.values.proofs.code_in.Reads as code-in-reads
 use Rattle.values.proofs.is_capitals.Reads as is-capitals-reads
 

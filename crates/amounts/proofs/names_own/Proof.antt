@@ -6,7 +6,7 @@ use Rattle.amounts.proofs.names_own.Tie as tie
 use Rattle.amounts.proofs.names_own.Reads as reads
 use Rattle.amounts.proofs.names_own.Lts as lts
 use Rattle.truth.proofs.both.Reads as both-reads
-use Rattle.amounts.proofs.same_in.Reads as same-in-reads
+use Rattle.values.proofs.same_in.Reads as same-in-reads
 use Rattle.values.proofs.code_in.Reads as code-in-reads
 
 code-in-requires : tie.Need-code-in-requires

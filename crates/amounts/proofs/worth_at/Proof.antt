@@ -5,14 +5,10 @@ use Rattle.amounts.proofs.worth_at.Statement.{statement}
 use Rattle.amounts.proofs.worth_at.Tie as tie
 use Rattle.amounts.proofs.worth_at.Reads as reads
 use Rattle.amounts.proofs.worth_at.Lts as lts
-use Rattle.parts.proofs.component.Reads as component-reads
-use Rattle.values.proofs.amount_at.Reads as amount-at-reads
+use Rattle.values.proofs.amount_in.Reads as amount-in-reads
 
-component-requires : tie.Need-component-requires
-component-requires c κs = search (worth-of, worth-not, needs)
-
-amount-at-requires : tie.Need-amount-at-requires
-amount-at-requires c κs = search (worth-of, worth-not, needs)
+amount-in-requires : tie.Need-amount-in-requires
+amount-in-requires c κs = search (worth-of, worth-not, needs)
 
 enum-known-a : tie.Need-enum-known-a
 enum-known-a c = search (worth-of, worth-not, needs)
@@ -29,4 +25,4 @@ returns-2 c = search (worth-of, worth-not, needs)
 pub worth-at-spec : {M : Type 1} → statement M
 worth-at-spec =
     tie.close
-    (tie.spec component-requires amount-at-requires enum-known-a enum-told returns returns-2)
+    (tie.spec amount-in-requires enum-known-a enum-told returns returns-2)

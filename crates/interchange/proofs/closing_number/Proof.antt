@@ -5,21 +5,14 @@ use Rattle.interchange.proofs.closing_number.Statement.{statement}
 use Rattle.interchange.proofs.closing_number.Tie as tie
 use Rattle.interchange.proofs.closing_number.Reads as reads
 use Rattle.interchange.proofs.closing_number.Lts as lts
-use Rattle.parts.proofs.component.Reads as component-reads
 use Rattle.values.proofs.number_is.Reads as number-is-reads
-use Rattle.values.proofs.same_value.Reads as same-value-reads
+use Rattle.values.proofs.same_in.Reads as same-in-reads
 
 number-is-requires : tie.Need-number-is-requires
 number-is-requires c κs = search (closing-count, closing-reference, closing-strays, closing-well, needs)
 
-component-requires : tie.Need-component-requires
-component-requires c κs = search (closing-count, closing-reference, closing-strays, closing-well, needs)
-
-component-requires-2 : tie.Need-component-requires-2
-component-requires-2 c κs = search (closing-count, closing-reference, closing-strays, closing-well, needs)
-
-same-value-requires : tie.Need-same-value-requires
-same-value-requires c κs = search (closing-count, closing-reference, closing-strays, closing-well, needs)
+same-in-requires : tie.Need-same-in-requires
+same-in-requires c κs = search (closing-count, closing-reference, closing-strays, closing-well, needs)
 
 returns : tie.Need-returns
 returns c = search (closing-count, closing-reference, closing-strays, closing-well, needs)
@@ -38,9 +31,7 @@ closing-number-spec =
     tie.close
     (tie.spec
     number-is-requires
-    component-requires
-    component-requires-2
-    same-value-requires
+    same-in-requires
     returns
     returns-2
     returns-3

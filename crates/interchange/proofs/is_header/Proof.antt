@@ -7,9 +7,8 @@ use Rattle.interchange.proofs.is_header.Reads as reads
 use Rattle.interchange.proofs.is_header.Lts as lts
 use Rattle.interchange.proofs.is_reference.Reads as is-reference-reads
 use Rattle.interchange.proofs.tag_at.Reads as tag-at-reads
-use Rattle.parts.proofs.component.Reads as component-reads
 use Rattle.values.proofs.code_in.Reads as code-in-reads
-use Rattle.values.proofs.value_len.Reads as value-len-reads
+use Rattle.values.proofs.length_in.Reads as length-in-reads
 
 tag-at-requires : tie.Need-tag-at-requires
 tag-at-requires c κs = search (header-tag, header-version, header-reference, needs)
@@ -17,11 +16,8 @@ tag-at-requires c κs = search (header-tag, header-version, header-reference, ne
 code-in-requires : tie.Need-code-in-requires
 code-in-requires c κs = search (header-tag, header-version, header-reference, needs)
 
-component-requires : tie.Need-component-requires
-component-requires c κs = search (header-tag, header-version, header-reference, needs)
-
-value-len-requires : tie.Need-value-len-requires
-value-len-requires c κs = search (header-tag, header-version, header-reference, needs)
+length-in-requires : tie.Need-length-in-requires
+length-in-requires c κs = search (header-tag, header-version, header-reference, needs)
 
 is-reference-requires : tie.Need-is-reference-requires
 is-reference-requires c κs = search (header-tag, header-version, header-reference, needs)
@@ -41,8 +37,7 @@ is-header-spec =
     (tie.spec
     tag-at-requires
     code-in-requires
-    component-requires
-    value-len-requires
+    length-in-requires
     is-reference-requires
     returns
     returns-2

@@ -6,10 +6,10 @@ use Rattle.listing.proofs.put_total.Statement.{statement}
 use Rattle.listing.proofs.put_total.Tie as tie
 use Rattle.listing.proofs.put_total.Reads as reads
 use Rattle.listing.proofs.put_total.Lts as lts
-use Rattle.listing.proofs.total_at.Reads as total-at-reads
+use Rattle.amounts.proofs.worth_at.Reads as worth-at-reads
 
-total-at-requires : tie.Need-total-at-requires
-total-at-requires c κs = search (total-put, other, full, needs)
+worth-at-requires : tie.Need-worth-at-requires
+worth-at-requires c κs = search (total-put, other, full, needs)
 
 mul-totals : tie.Need-mul-totals
 mul-totals c = search (total-put, other, full, needs)
@@ -36,7 +36,7 @@ pub put-total-spec : {M : Type 1} → statement M
 put-total-spec =
     tie.close
     (tie.spec
-    total-at-requires
+    worth-at-requires
     mul-totals
     slice-write-totals
     add-result

@@ -6,20 +6,16 @@ use Rattle.report.proofs.has_header.Tie as tie
 use Rattle.report.proofs.has_header.Reads as reads
 use Rattle.report.proofs.has_header.Lts as lts
 use Rattle.interchange.proofs.is_reference.Reads as is-reference-reads
-use Rattle.parts.proofs.component.Reads as component-reads
 use Rattle.truth.proofs.both.Reads as both-reads
 use Rattle.report.proofs.is_paymul.Reads as is-paymul-reads
 use Rattle.values.proofs.code_at.Reads as code-at-reads
-use Rattle.values.proofs.value_len.Reads as value-len-reads
+use Rattle.values.proofs.length_in.Reads as length-in-reads
 
 code-at-requires : tie.Need-code-at-requires
 code-at-requires c κs = search (header-by, needs)
 
-component-requires : tie.Need-component-requires
-component-requires c κs = search (header-by, needs)
-
-value-len-requires : tie.Need-value-len-requires
-value-len-requires c κs = search (header-by, needs)
+length-in-requires : tie.Need-length-in-requires
+length-in-requires c κs = search (header-by, needs)
 
 is-reference-requires : tie.Need-is-reference-requires
 is-reference-requires c κs = search (header-by, needs)
@@ -38,8 +34,7 @@ has-header-spec =
     tie.close
     (tie.spec
     code-at-requires
-    component-requires
-    value-len-requires
+    length-in-requires
     is-reference-requires
     both-requires
     is-paymul-requires
