@@ -2,12 +2,13 @@
 ghost use Prim.Native.Nat.{_+_, min};
 ghost use mathlib.Core.Path.{_≡_};
 ghost use mathlib.Core.Bool.{true, false, not, _&&_, _||_};
-ghost use Rattle.values.specs.Values.{amountOf, valueIn};
+ghost use Rattle.values.specs.forms.Values.{amountOf};
+ghost use Rattle.values.specs.Numbers.{valueIn};
 ghost use Rattle.values.specs.Text.{says};
 ghost use Rattle.message.specs.Segs.{segAt};
 ghost use Rattle.message.specs.Rules.{isOf, worth, capitals, firstHolds, secondHolds, cuxHolds};
-ghost use Rattle.message.specs.ValueLaws.{most};
-ghost use Rattle.amounts.specs.Steps.{orderOf, sumsOf, sumsStart, sumsStep, amountsClose, ownAt, baseBy, basesBy, noOrder, orderEnded, withForm, exchanged, paid};
+ghost use Rattle.message.specs.forms.Counts.{most};
+ghost use Rattle.amounts.specs.forms.Steps.{orderOf, sumsOf, sumsStart, sumsStep, amountsClose, ownAt, baseBy, basesBy, noOrder, orderEnded, withForm, exchanged, paid};
 use faults::First;
 use service::Service;
 use values::Amount;

@@ -11,11 +11,11 @@ use Rattle.chart.specs.declared.Placed.{Placed}
 use Rattle.chart.specs.declared.Placed.the-variants.{Whole, Stuck}
 use Rattle.chart.specs.Chart.{Placement, Unplaced, Begins, FirstMisfit}
 use Rattle.chart.specs.Table.{Table, chartOf}
-use Rattle.chart.specs.Codes.{UNT}
-use Rattle.chart.specs.Sound.{Sound}
+use Rattle.chart.specs.forms.Codes.{UNT}
+use Rattle.chart.specs.forms.Sound.{Sound}
 use Rattle.chart.specs.Tags.{tagsOf}
 use Rattle.segments.specs.SegmentList.{startAt}
-use Rattle.chart.specs.Next.{rowsOf}
+use Rattle.chart.specs.forms.Next.{rowsOf}
 use Rattle.chart.specs.Answer.{StuckAt, Answers}
 use Rattle.chart.proofs.Theorems.{one-placement, one-fault, misfit-or-begins, closed-fails, closed-misfit}
 use Rattle.chart.proofs.Whole.{fine}

@@ -6,13 +6,14 @@ use Prim.Native.Nat.{ℕ}
 use Rattle.service.specs.declared.Service.{Service}
 use Rattle.segments.specs.Classes.{classOf}
 use Rattle.chart.specs.Chart.{Reading, FirstMisfit}
-use Rattle.chart.specs.Machine.{only, run, step, stepRows, free, freeRows, placed, stuck, choose, takes, owed, rowsBy}
+use Rattle.chart.specs.forms.Machine.{only, run, step, stepRows, free, freeRows, placed, stuck, choose, takes, owed, rowsBy}
 use Rattle.table.specs.Entries.{linesFrom, within, text}
-use Rattle.chart.specs.Codes.{UNH, BGM, DTM, LIN, RFF, MOA, FII, SEQ, CNT, UNT}
-use Rattle.chart.specs.Paymul.{PAYMUL, table, chart, rowsOf}
+use Rattle.chart.specs.forms.Codes.{UNH, BGM, DTM, LIN, RFF, MOA, FII, SEQ, CNT, UNT}
+use Rattle.chart.specs.Paymul.{PAYMUL, table, chart}
+use Rattle.chart.specs.forms.Rows.{rowsOf}
 use Rattle.chart.specs.Table.{chartOf, rowOver, inside}
-use Rattle.chart.specs.Columns.{parentOf, firstOf}
-use Rattle.chart.specs.Next.{nextOf, chainFrom, findIn, nextRow}
+use Rattle.chart.specs.forms.Columns.{parentOf, firstOf}
+use Rattle.chart.specs.forms.Next.{nextOf, chainFrom, findIn, nextRow}
 use Rattle.segments.specs.SegmentList.{pieces, startsFrom, startsOf}
 use Rattle.chart.proofs.Plain.{placed-one, stuck-fails}
 use Rattle.chart.proofs.Theorems.{closed-fails}

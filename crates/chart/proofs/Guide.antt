@@ -8,7 +8,7 @@ use lib.Dec.{T, eqb, eqb→eq}
 use lib.ListN.{length, getD, take, length-append, List·getD-append}
 use lib.Seq.{length-take-le, getD-take}
 use Rattle.chart.specs.Chart.{Rows, none, row, Placement}
-use Rattle.chart.specs.Machine.{only, Ends, Frames, done, frame, Step, at, fail, Out, placed, stuck, pick, and, or, step, stepRows, free, run, agreeRows, agree, guides, guidesK, rowsBy, rowAfter}
+use Rattle.chart.specs.forms.Machine.{only, Ends, Frames, done, frame, Step, at, fail, Out, placed, stuck, pick, and, or, step, stepRows, free, run, agreeRows, agree, guides, guidesK, rowsBy, rowAfter}
 use Rattle.chart.proofs.Theory.{View, place, owe, pass, view, at-fail, at-num, at-frames, step-place, step-owe, step-pass, and-left, and-right, and-make, or-cases, step-fail, step-on, step-fine, ends-free, Fine}
 use Rattle.chart.proofs.Plain.{placement-ends, placed-one}
 

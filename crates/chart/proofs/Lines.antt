@@ -5,10 +5,10 @@ use Prim.Native.Nat.{ℕ, _+_, _*_, _<_, _≤_}
 use lib.Dec.{ltb, eqb}
 use lib.ListN.{getD, length}
 use borrow.Author.Tests.{eq-eqb, ne-eqb, lt-ltb, le-ltb}
-use Rattle.chart.specs.Machine.{owed}
+use Rattle.chart.specs.forms.Machine.{owed}
 use Rattle.chart.specs.Table.{Table}
-use Rattle.chart.specs.Columns.{lineOf, parentOf, endOf, statusOf, reqOf, mostOf}
-use Rattle.chart.specs.Next.{nextOf}
+use Rattle.chart.specs.forms.Columns.{lineOf, parentOf, endOf, statusOf, reqOf, mostOf}
+use Rattle.chart.specs.forms.Next.{nextOf}
 use Rattle.chart.proofs.Nest.{owed-zero, owed-some}
 
 -- the status of a row: M, R, N or another letter

@@ -10,11 +10,11 @@ use borrow.Author.Tests.{eq-eqb, ne-eqb, eqb-true, eqb-false, lt-ltb, le-ltb}
 use Rattle.segments.specs.Classes.{alike}
 use Rattle.chart.specs.Chart.{Rows, none, row}
 use Rattle.chart.proofs.Theory.{and-left, and-right, or-cases, nots, T-true}
-use Rattle.chart.specs.Machine.{and, pick, owed}
+use Rattle.chart.specs.forms.Machine.{and, pick, owed}
 use Rattle.table.specs.Entries.{parentIn, required}
 use Rattle.chart.specs.Table.{Table, chartOf}
-use Rattle.chart.specs.Sound.{Sound, all-to, nests, childless, heads}
-use Rattle.chart.specs.Columns.{tagOf, parentOf, statusOf, repeatsOf, endOf, reqOf, mostOf, firstOf, rowAt, Is, is-none, is-row, RowIs, Some}
+use Rattle.chart.specs.forms.Sound.{Sound, all-to, nests, childless, heads}
+use Rattle.chart.specs.forms.Columns.{tagOf, parentOf, statusOf, repeatsOf, endOf, reqOf, mostOf, firstOf, rowAt, Is, is-none, is-row, RowIs, Some}
 
 and-true : (b : Bool) → and b true ≡ b
 and-true true = refl

@@ -5,13 +5,13 @@ use Prim.Native.Nat.{ℕ}
 use Rattle.service.specs.declared.Service.{Service}
 use Rattle.chart.specs.declared.Placed.{Placed}
 use Rattle.table.specs.Entries.{linesFrom, within, text}
-use Rattle.chart.specs.Machine.{det, detK, good, goodK, doubt, may, mayRows, takes, owed, choose, agree, agreeRows, guides, guidesK, labels, closing, lacking}
+use Rattle.chart.specs.forms.Machine.{det, detK, good, goodK, doubt, may, mayRows, takes, owed, choose, agree, agreeRows, guides, guidesK, labels, closing, lacking}
 use Rattle.chart.specs.Paymul.{PAYMUL, table}
 use Rattle.chart.specs.Table.{Table, chartOf, inside, rowOver}
-use Rattle.chart.specs.Columns.{parentOf, reqOf, mostOf, firstOf}
-use Rattle.chart.specs.Next.{nextOf, chainFrom, findIn, nextRow}
+use Rattle.chart.specs.forms.Columns.{parentOf, reqOf, mostOf, firstOf}
+use Rattle.chart.specs.forms.Next.{nextOf, chainFrom, findIn, nextRow}
 use Rattle.chart.specs.Answer.{Answers}
-use Rattle.chart.specs.Sound.{Sound, all-to, nests, childless, heads}
+use Rattle.chart.specs.forms.Sound.{Sound, all-to, nests, childless, heads}
 
 -- THE COMPUTED TESTS
 pub paymul-sound : Sound PAYMUL

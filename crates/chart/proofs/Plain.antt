@@ -11,7 +11,7 @@ use lib.Dec.{T}
 use lib.ListN.{length, take}
 use lib.Seq.{take-all}
 use Rattle.chart.specs.Chart.{Rows, none, row, Placement, no-rows, row-then, Occurrences, no-more, one-then, Begins, FirstMisfit, Unplaced, FailsAt}
-use Rattle.chart.specs.Machine.{only, Goes, stop, skip, have, Frames, done, frame, Ends, ends, goes, Out, placed, stuck, run}
+use Rattle.chart.specs.forms.Machine.{only, Goes, stop, skip, have, Frames, done, frame, Ends, ends, goes, Out, placed, stuck, run}
 use Rattle.chart.proofs.Theory.{Fine, Said, all, part, Stuck, said, run-of}
 
 mutual

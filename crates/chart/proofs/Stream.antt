@@ -8,18 +8,18 @@ use lib.Dec.{ltb, eqb}
 use lib.ListN.{length, getD, take}
 use Rattle.service.specs.declared.Service.{Service}
 use borrow.Author.Tests.{ltb-true, lt-ltb, le-ltb, eq-eqb, ne-eqb}
-use Rattle.chart.specs.Machine.{pick, rowsBy, rowAfter}
-use Rattle.chart.specs.Columns.{tagOf, endOf, firstOf}
+use Rattle.chart.specs.forms.Machine.{pick, rowsBy, rowAfter}
+use Rattle.chart.specs.forms.Columns.{tagOf, endOf, firstOf}
 use Rattle.chart.specs.Table.{Table, chartOf}
-use Rattle.chart.specs.Sound.{Sound}
-use Rattle.chart.specs.Next.{nextOf, chainFrom, findIn, nextRow, rowsOf}
+use Rattle.chart.specs.forms.Sound.{Sound}
+use Rattle.chart.specs.forms.Next.{nextOf, chainFrom, findIn, nextRow, rowsOf}
 use Rattle.chart.specs.declared.Cursor.{Cursor}
 use Rattle.chart.specs.Chart.{Placement}
 use Rattle.chart.specs.Tags.{tagsFrom, tagsOf}
 use Rattle.segments.specs.SegmentList.{startsOf}
-use Rattle.chart.specs.TagsLaws.{tags-past, same-count}
-use Rattle.chart.specs.Cursor.{CursorIs, Stepped, Tagged, Stands}
-use Rattle.chart.specs.CursorLaws.{passes, stands-first, stands-next, stands-lt, stands-tag, stands-at, stands-all}
+use Rattle.chart.specs.laws.TagsLaws.{tags-past, same-count}
+use Rattle.chart.specs.forms.Cursor.{CursorIs, Stepped, Tagged, Stands}
+use Rattle.chart.specs.laws.CursorLaws.{passes, stands-first, stands-next, stands-lt, stands-tag, stands-at, stands-all}
 use Rattle.chart.proofs.Guide.{rows-first, rows-next, rows-after, rows-begun}
 use Rattle.chart.proofs.Whole.{placed-rows}
 

@@ -12,7 +12,7 @@ use lib.ListN.{length, take, drop, take-append-drop}
 use lib.Seq.{take-add}
 use borrow.Author.Tests.{ltb-true, eq-eqb}
 use Rattle.chart.specs.Chart.{Rows, none, row, Placement, no-rows, row-then, Occurrences, no-more, one-then, Before, shorter, smaller, further, Reading, Unplaced, Begins, FirstMisfit, FailsAt}
-use Rattle.chart.specs.Machine.{only, Decided, labels, lacking, closing, isNone, and, or, Frames, Ends, Step, at, fail, step, placed, stuck, run}
+use Rattle.chart.specs.forms.Machine.{only, Decided, labels, lacking, closing, isNone, and, or, Frames, Ends, Step, at, fail, step, placed, stuck, run}
 use Rattle.chart.proofs.Theory.{Fine, step-on, step-fail, step-fine, ends-free, and-left, and-right, nots, T-true, true-T, Said, all, part, said}
 use Rattle.chart.proofs.Plain.{placement-ends, ends-placement, stuck-fails}
 

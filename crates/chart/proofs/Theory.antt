@@ -8,7 +8,7 @@ use lib.Dec.{T, ltb, leb, eqb}
 use lib.ListN.{length, length-append, take}
 use borrow.Author.Tests.{ltb-true, ltb-false, eqb-true, eqb-false, lt-ltb, le-ltb, eq-eqb, ne-eqb}
 use Rattle.chart.specs.Chart.{Rows, none, row}
-use Rattle.chart.specs.Machine.{Goes, stop, skip, have, Frames, done, frame, Ends, ends, goes, Step, at, fail, Out, placed, stuck, pick, and, or, choose, takes, owed, stepRows, step, freeRows, free, run, mayRows, may, after, doubt, clash, det, good, detK, goodK}
+use Rattle.chart.specs.forms.Machine.{Goes, stop, skip, have, Frames, done, frame, Ends, ends, goes, Step, at, fail, Out, placed, stuck, pick, and, or, choose, takes, owed, stepRows, step, freeRows, free, run, mayRows, may, after, doubt, clash, det, good, detK, goodK}
 
 -- BOOLEANS
 pub and-left : (a b : Bool) → T (and a b) → T a

@@ -15,13 +15,13 @@ use Rattle.chart.specs.declared.Cursor.{Cursor}
 use Rattle.chart.specs.declared.Went.{Went}
 use Rattle.chart.specs.declared.Went.the-variants.{To, Stuck}
 use Rattle.chart.specs.Chart.{Rows, none, row}
-use Rattle.chart.specs.Machine.{Frames, frame, placed, stuck, pick, takes, owed, stepRows, step, freeRows, free, run}
+use Rattle.chart.specs.forms.Machine.{Frames, frame, placed, stuck, pick, takes, owed, stepRows, step, freeRows, free, run}
 use Rattle.chart.specs.Table.{Table}
-use Rattle.chart.specs.Columns.{tagOf, endOf, reqOf, mostOf, firstOf, rowAt, Is, RowIs, Some}
+use Rattle.chart.specs.forms.Columns.{tagOf, endOf, reqOf, mostOf, firstOf, rowAt, Is, RowIs, Some}
 use Rattle.chart.specs.Tags.{tagsOf}
-use Rattle.chart.specs.Cursor.{Stepped, Stands}
-use Rattle.chart.specs.CursorLaws.{stands-next, stands-lt, stands-ge, stands-tag, stands-none, stands-at}
-use Rattle.chart.specs.Placing.{takesAt, RowTo, RowsPass, RowsStop, RowsDone, RowPass, RowStop, RowDone}
+use Rattle.chart.specs.forms.Cursor.{Stepped, Stands}
+use Rattle.chart.specs.laws.CursorLaws.{stands-next, stands-lt, stands-ge, stands-tag, stands-none, stands-at}
+use Rattle.chart.specs.forms.Placing.{takesAt, RowTo, RowsPass, RowsStop, RowsDone, RowPass, RowStop, RowDone}
 use Rattle.chart.proofs.Theory.{step-place, step-owe, step-pass, run-at, run-fail, run-short, free-owe, free-pass, and-left, and-right, T-true, true-T}
 use Rattle.chart.proofs.Nest.{Head, head, ended, kids-is, tag-some}
 

@@ -10,15 +10,15 @@ use Rattle.chart.specs.declared.Cursor.{Cursor}
 use Rattle.chart.specs.declared.Went.{Went}
 use Rattle.chart.specs.declared.Went.the-variants.{To, Stuck}
 use Rattle.chart.specs.Chart.{Placement, Reading}
-use Rattle.chart.specs.Machine.{only, done, placed, stuck, run, step, free}
+use Rattle.chart.specs.forms.Machine.{only, done, placed, stuck, run, step, free}
 use Rattle.chart.specs.Table.{Table, chartOf}
-use Rattle.chart.specs.Sound.{Sound}
-use Rattle.chart.specs.Columns.{tagOf}
-use Rattle.chart.specs.Next.{nextRow, rowsOf}
+use Rattle.chart.specs.forms.Sound.{Sound}
+use Rattle.chart.specs.forms.Columns.{tagOf}
+use Rattle.chart.specs.forms.Next.{nextRow, rowsOf}
 use Rattle.chart.specs.Tags.{tagsOf}
-use Rattle.chart.specs.Cursor.{CursorIs}
-use Rattle.chart.specs.CursorLaws.{stands-first, stands-lt, stands-ge, stands-at}
-use Rattle.chart.specs.Placing.{RowsPass, RowsStop, RowsDone}
+use Rattle.chart.specs.forms.Cursor.{CursorIs}
+use Rattle.chart.specs.laws.CursorLaws.{stands-first, stands-lt, stands-ge, stands-at}
+use Rattle.chart.specs.forms.Placing.{RowsPass, RowsStop, RowsDone}
 use Rattle.chart.specs.Answer.{StuckAt}
 use Rattle.chart.proofs.Theory.{Fine, run-end, run-fail}
 use Rattle.chart.proofs.Plain.{placed-one, stuck-fails}

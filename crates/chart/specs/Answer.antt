@@ -9,7 +9,7 @@ use Rattle.chart.specs.Chart.{Reading, FailsAt}
 use Rattle.chart.specs.Table.{Table, chartOf}
 use Rattle.chart.specs.Tags.{tagsOf}
 use Rattle.segments.specs.SegmentList.{startAt}
-use Rattle.chart.specs.Next.{rowsOf}
+use Rattle.chart.specs.forms.Next.{rowsOf}
 
 -- number 16 is given at the segment that begins at p: j segments stand before it
 pub record StuckAt (t : Table) (v : Service) (m : List ℕ) (p : ℕ) : Type 0 where

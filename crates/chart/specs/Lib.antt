@@ -1,15 +1,7 @@
 pub mod Answer
 pub mod Chart
-pub mod Codes
-pub mod CodesLaws
-pub mod Columns
-pub mod Cursor
-pub mod CursorLaws
-pub mod Machine
-pub mod Next
 pub mod Paymul
-pub mod Placing
-pub mod Sound
 pub mod Table
 pub mod Tags
-pub mod TagsLaws
+pub mod forms
+pub mod laws

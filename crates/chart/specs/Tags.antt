@@ -3,7 +3,8 @@ use Prim.Native.Nat.{ℕ}
 use mathlib.Core.List.{List, map}
 use Rattle.service.specs.declared.Service.{Service}
 use Rattle.segments.specs.SegmentList.{startsFrom}
-use Rattle.values.specs.Values.{valueFrom, codeOf}
+use Rattle.values.specs.Numbers.{valueFrom}
+use Rattle.values.specs.forms.Values.{codeOf}
 
 -- the tag of the segment that begins at i, as a code: 'its tag is the first component's value'
 abbrev pub tagOn : Service → List ℕ → ℕ → ℕ

@@ -7,24 +7,27 @@ use mathlib.Core.Bool.{Bool, false, not, _&&_, _||_}
 use lib.ListN.{length, drop, set}
 use Rattle.service.specs.declared.Service.{Service}
 use Rattle.service.specs.Service.{isMark, charactersOf, fitting}
-use Rattle.segments.specs.Bytes.{classOf, pastBreaks}
-use Rattle.segments.specs.Segments.{segmentAt}
+use Rattle.segments.specs.Classes.{classOf}
+use Rattle.segments.specs.forms.Bytes.{pastBreaks}
+use Rattle.segments.specs.forms.Segments.{segmentAt}
 use Rattle.segments.specs.SegmentList.{segmentsFrom, startAt}
 use Rattle.parts.specs.Parts.{lex, valueOf, elements, valueAt}
-use Rattle.parts.specs.Lex.{tokenAt}
-use Rattle.values.specs.Values.{valueFrom, valueIn, sameList, codeOf, amountOf, isCapitals, numberOf, isNumber}
+use Rattle.parts.specs.forms.Lex.{tokenAt}
+use Rattle.values.specs.Numbers.{valueFrom, valueIn}
+use Rattle.values.specs.Text.{sameList}
+use Rattle.values.specs.forms.Values.{codeOf, amountOf, isCapitals, numberOf, isNumber}
 use Rattle.interchange.specs.Messages.{foundFrom}
 use Rattle.interchange.specs.Envelope.{isReference, refusal, openingNumber, openingOf, closingOf}
 use Rattle.faults.specs.declared.First.{First}
 use Rattle.faults.specs.declared.Fault.{Fault}
 use Rattle.faults.specs.Firsts.{lesser, placeUnless, numberFirst}
 use Rattle.lent.specs.Lists.{Lists, left}
-use Rattle.lent.specs.Puts.{pastOne}
+use Rattle.lent.specs.forms.Puts.{pastOne}
 use Rattle.lines.specs.Lines.{messageLine, endLine, openLine, Lined}
 use Rattle.chart.specs.declared.Cursor.{Cursor}
-use Rattle.chart.specs.Cursor.{CursorIs, Stepped as Onwards}
+use Rattle.chart.specs.forms.Cursor.{CursorIs, Stepped as Onwards}
 use Rattle.chart.specs.Answer.{Answers}
-use Rattle.chart.specs.Next.{nextRow}
+use Rattle.chart.specs.forms.Next.{nextRow}
 use Rattle.tally.specs.Tallied.{tallyOf}
 use Rattle.tally.specs.Places.{passed}
 use Rattle.message.specs.Segs.{segAt}
@@ -32,15 +35,15 @@ use Rattle.rules.specs.Placed.{placedOn}
 use Rattle.message.specs.Rules.{worth, paymulOf}
 use Rattle.message.specs.Faults.{tellAll, leastOf}
 use Rattle.numbering.specs.declared.Numbering.{Numbering}
-use Rattle.numbering.specs.Steps.{numberingStart, numberingStep}
+use Rattle.numbering.specs.forms.Steps.{numberingStart, numberingStep}
 use Rattle.amounts.specs.declared.Amounts.{Amounts}
-use Rattle.amounts.specs.Steps.{sumsStart, sumsOf, sumsStep, amountsClose, ownAt}
+use Rattle.amounts.specs.forms.Steps.{sumsStart, sumsOf, sumsStep, amountsClose, ownAt}
 use Rattle.parties.specs.declared.Parties.{Parties}
-use Rattle.parties.specs.Steps.{partiesStart, partiesStep, partiesClose}
+use Rattle.parties.specs.forms.Steps.{partiesStart, partiesStep, partiesClose}
 use Rattle.details.specs.declared.Details.{Details}
-use Rattle.details.specs.Steps.{detailsStart, detailsStep, detailsClose}
+use Rattle.details.specs.forms.Steps.{detailsStart, detailsStep, detailsClose}
 use Rattle.trailer.specs.declared.Trailer.{Trailer}
-use Rattle.trailer.specs.Steps.{trailerStart, trailerStep}
+use Rattle.trailer.specs.forms.Steps.{trailerStart, trailerStep}
 use Rattle.listing.specs.Listing.{rowsAfter, startsAfter, totalsAfter}
 use Rattle.chart.specs.Paymul.{PAYMUL}
 use Rattle.report.specs.declared.Report.{Report}

@@ -9,7 +9,7 @@ use lib.ListN.{length, drop}
 use Rattle.service.specs.declared.Service.{Service}
 use Rattle.service.specs.declared.Characters.the-variants.{Fit}
 use Rattle.service.specs.Service.{among, charactersOf}
-use Rattle.segments.specs.SegmentList.{segmentsFrom, startAt}
+use Rattle.segments.specs.SegmentList.{segmentsFrom, startAt, endAt}
 use Rattle.interchange.specs.declared.Refusal.{Refusal}
 use Rattle.interchange.specs.declared.Opening.the-variants as o
 use Rattle.interchange.specs.Envelope.{openingNumber, openingOf, closingOf}
@@ -17,7 +17,6 @@ use Rattle.lent.specs.Lists.{Lists}
 use Rattle.report.specs.declared.Counts.{Counts}
 use Rattle.report.specs.declared.Report.the-variants as report
 use Rattle.report.specs.Reported.{Reported}
-use Rattle.report.specs.RefusalLaws.{endAt}
 use Rattle.walk.specs.declared.Walked.the-variants as walked
 use Rattle.walk.specs.Walks.{between, Walks}
 use Rattle.rewrite.specs.declared.Rewriting.the-variants as w

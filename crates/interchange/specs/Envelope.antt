@@ -9,10 +9,11 @@ use Rattle.service.specs.declared.Characters.{Characters}
 use Rattle.service.specs.declared.Characters.the-variants.{Fit, Unfit}
 use Rattle.service.specs.Service.{charactersOf}
 use Rattle.segments.specs.Classes.{if}
-use Rattle.segments.specs.Bytes.{pastBreaks}
+use Rattle.segments.specs.forms.Bytes.{pastBreaks}
 use Rattle.segments.specs.SegmentList.{Piece, finished, unfinished, segmentsFrom}
 use Rattle.values.specs.Text.{sameList, says}
-use Rattle.values.specs.Values.{valueIn, numberOf, isNumber}
+use Rattle.values.specs.Numbers.{valueIn}
+use Rattle.values.specs.forms.Values.{numberOf, isNumber}
 use Rattle.interchange.specs.declared.Refusal.{Refusal}
 use Rattle.interchange.specs.declared.Opening.{Opening}
 use Rattle.interchange.specs.declared.Opening.the-variants.{Opens, Refused}

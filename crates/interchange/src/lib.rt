@@ -1,12 +1,12 @@
 // The envelope of an interchange, and where its messages lie.
 ghost use mathlib.Core.Path.{_≡_};
 ghost use Rattle.segments.specs.SegmentList.{segmentsFrom};
-ghost use Rattle.values.specs.Values.{codeOf};
+ghost use Rattle.values.specs.forms.Values.{codeOf};
 ghost use Rattle.interchange.specs.Messages.{tagAt, foundFrom};
 ghost use Rattle.interchange.specs.Envelope.{isReference, isHeader, ended, firstAt, refusal, openedBy, openingOf, closingNumber, closingOf};
-ghost use Rattle.interchange.specs.KindLaws.{isEnd};
-ghost use Rattle.interchange.specs.FindLaws.{endFound};
-ghost use Rattle.interchange.specs.SurveyLaws.{Surveyed, pastAt};
+ghost use Rattle.interchange.specs.forms.Kinds.{isEnd};
+ghost use Rattle.interchange.specs.forms.Found.{endFound};
+ghost use Rattle.interchange.specs.forms.Survey.{Surveyed, pastAt};
 use segments::Segment;
 use service::Characters;
 use service::Service;

@@ -3,7 +3,7 @@ ghost use mathlib.Core.Path.{_≡_};
 ghost use Prim.Native.Nat.{_%_};
 ghost use mathlib.Core.List.{[], _∷_};
 ghost use lib.ListN.{length, set};
-ghost use Rattle.lent.specs.Puts.{Puts, pastOne};
+ghost use Rattle.lent.specs.forms.Puts.{Puts, pastOne};
 
 // A number that fits 16 bits.
 pub fn low16(x: usize) -> u16

@@ -1,4 +1,2 @@
-pub mod CasesLaws
-pub mod DecimalLaws
 pub mod Lines
-pub mod LinesLaws
+pub mod laws

@@ -2,7 +2,7 @@
 ghost use Prim.Native.Nat.{_+_, _≤_};
 ghost use mathlib.Core.List.{[], _∷_, _++_};
 ghost use lib.ListN.{length};
-ghost use Rattle.lent.specs.Puts.{Puts};
+ghost use Rattle.lent.specs.forms.Puts.{Puts};
 ghost use Rattle.values.specs.Text.{text};
 ghost use Rattle.report.specs.declared.Report.the-variants.{Accepted, Refused};
 ghost use Rattle.lines.specs.Lines.{decimal, line, messageLine, endLine, openLine, Lined};

@@ -7,21 +7,22 @@ use mathlib.Core.List.{List, [], _∷_, map}
 use lib.ListN.{length, take, set, getD, length-map}
 use Rattle.service.specs.declared.Service.{Service}
 use Rattle.segments.specs.SegmentList.{startsOf}
-use Rattle.lent.specs.Kept.{Kept}
-use Rattle.lent.specs.KeptLaws.{kept-start, kept-set}
-use Rattle.lent.specs.Over.{over, Written}
-use Rattle.lent.specs.OverLaws.{written-start, written-set, written-all}
+use Rattle.lent.specs.forms.Kept.{Kept}
+use Rattle.lent.specs.laws.KeptLaws.{kept-start, kept-set}
+use Rattle.lent.specs.Over.{over}
+use Rattle.lent.specs.forms.Written.{Written}
+use Rattle.lent.specs.laws.OverLaws.{written-start, written-set, written-all}
 use Rattle.chart.specs.declared.Cursor.{Cursor}
-use Rattle.chart.specs.Cursor.{CursorIs, Stepped}
+use Rattle.chart.specs.forms.Cursor.{CursorIs, Stepped}
 use Rattle.chart.specs.Table.{Table}
 use Rattle.chart.specs.Paymul.{PAYMUL}
 use Rattle.chart.specs.Tags.{tagsOf}
-use Rattle.chart.specs.TagsLaws.{same-count}
-use Rattle.chart.specs.Next.{nextRow, rowsOf}
+use Rattle.chart.specs.laws.TagsLaws.{same-count}
+use Rattle.chart.specs.forms.Next.{nextRow, rowsOf}
 use Rattle.chart.proofs.Guide.{rows-length}
 use Rattle.chart.proofs.Stream.{Streams, stream-first, stream-lt, stream-row, stream-start, stream-next, stream-end, next-bound}
 use Rattle.listing.specs.Listing.{low32, rowsAfter, startsAfter}
-use Rattle.listing.specs.ListingLaws.{rows-room, starts-room}
+use Rattle.listing.specs.laws.ListingLaws.{rows-room, starts-room}
 
 -- k segments are listed and the cursor c stands at the next: the rows were r₀ and are r, the starts were s₀ and are s
 pub record Lists (t : Table) (v : Service) (m : List ℕ) (count k row : ℕ) (c : Cursor) (r₀ r s₀ s : List ℕ) : Type 0 where

@@ -9,26 +9,27 @@ use lib.ListN.{length, take, drop, set, length-drop}
 use borrow.Author.Tests.{eq-eqb, ne-eqb}
 use Rattle.service.specs.declared.Service.{Service}
 use Rattle.segments.specs.Classes.{if}
-use Rattle.values.specs.Values.{amountOf}
-use Rattle.lent.specs.Kept.{Kept}
-use Rattle.lent.specs.KeptLaws.{kept-start, kept-set}
-use Rattle.lent.specs.Over.{over, Written}
-use Rattle.lent.specs.OverLaws.{written-start, written-set, written-all}
+use Rattle.values.specs.forms.Values.{amountOf}
+use Rattle.lent.specs.forms.Kept.{Kept}
+use Rattle.lent.specs.laws.KeptLaws.{kept-start, kept-set}
+use Rattle.lent.specs.Over.{over}
+use Rattle.lent.specs.forms.Written.{Written}
+use Rattle.lent.specs.laws.OverLaws.{written-start, written-set, written-all}
 use Rattle.chart.specs.declared.Cursor.{Cursor}
-use Rattle.chart.specs.Machine.{rowsBy}
-use Rattle.chart.specs.Cursor.{CursorIs, Stepped, Tagged}
-use Rattle.chart.specs.CursorLaws.{tail-of, head-of, none-of, passes, tagged-first, tagged-next}
+use Rattle.chart.specs.forms.Machine.{rowsBy}
+use Rattle.chart.specs.forms.Cursor.{CursorIs, Stepped, Tagged}
+use Rattle.chart.specs.laws.CursorLaws.{tail-of, head-of, none-of, passes, tagged-first, tagged-next}
 use Rattle.chart.specs.Table.{Table}
 use Rattle.chart.specs.Paymul.{PAYMUL}
 use Rattle.chart.specs.Tags.{tagsFrom, tagsOf}
 use Rattle.segments.specs.SegmentList.{startsFrom}
-use Rattle.chart.specs.Next.{nextRow, rowsOf}
+use Rattle.chart.specs.forms.Next.{nextRow, rowsOf}
 use Rattle.chart.proofs.Stream.{left-rows, left-none}
 use Rattle.message.specs.Segs.{Seg, segAt, segsFrom, segsOf, those, rowOf, MOA5}
 use Rattle.message.specs.Rules.{worth, amount, totalsOf}
 use Rattle.listing.specs.Listing.{totalsAfter}
-use Rattle.listing.specs.ListingLaws.{totals-room}
-use Rattle.listing.specs.Steps.{totalAt, TotalPut, total, other, full}
+use Rattle.listing.specs.laws.ListingLaws.{totals-room}
+use Rattle.listing.specs.forms.Steps.{totalAt, TotalPut, total, other, full}
 
 -- ---- one total
 pub total-put : (v : Service) (m : List ℕ) (i r k x : ℕ) (t : List ℕ) → r ≡ rowOf MOA5 → k < length t → x ≡ totalAt v m i → TotalPut v m i r k t (set t k x) (k + 1)

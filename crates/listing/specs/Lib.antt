@@ -1,3 +1,3 @@
 pub mod Listing
-pub mod ListingLaws
-pub mod Steps
+pub mod forms
+pub mod laws

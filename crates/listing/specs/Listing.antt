@@ -9,7 +9,7 @@ use Rattle.segments.specs.Classes.{if}
 use Rattle.segments.specs.SegmentList.{startsOf}
 use Rattle.chart.specs.Table.{Table}
 use Rattle.chart.specs.Tags.{tagsOf}
-use Rattle.chart.specs.Next.{rowsOf}
+use Rattle.chart.specs.forms.Next.{rowsOf}
 use Rattle.lent.specs.Over.{over}
 use Rattle.message.specs.Segs.{segsOf}
 use Rattle.message.specs.Rules.{totalsOf}

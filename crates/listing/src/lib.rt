@@ -4,7 +4,7 @@ ghost use Prim.Native.Nat.{_≤_};
 ghost use lib.ListN.{length};
 ghost use Rattle.chart.specs.Paymul.{PAYMUL};
 ghost use Rattle.listing.specs.Listing.{rowsAfter, startsAfter, totalsAfter};
-ghost use Rattle.listing.specs.Steps.{TotalPut};
+ghost use Rattle.listing.specs.forms.Steps.{TotalPut};
 use service::Service;
 use table::COLUMNS;
 

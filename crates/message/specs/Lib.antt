@@ -1,11 +1,5 @@
 pub mod Segs
 pub mod Rules
 pub mod Faults
-pub mod Run
-pub mod FirstLaws
-pub mod LevelLaws
-pub mod FaultLaws
-pub mod ValueLaws
-pub mod RowLaws
-pub mod LoopLaws
-pub mod CountLaws
+pub mod forms
+pub mod laws

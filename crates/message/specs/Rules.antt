@@ -8,8 +8,8 @@ use lib.Dec.{eqb, leb}
 use Rattle.segments.specs.Classes.{if, alike}
 use Rattle.values.specs.declared.Amount.{Amount}
 use Rattle.values.specs.declared.Amount.the-variants.{Of, Not}
-use Rattle.values.specs.Values.{codeOf, sameList, numberOf, isNumber, amountOf, isCapitals}
-use Rattle.values.specs.Text.{says}
+use Rattle.values.specs.forms.Values.{codeOf, numberOf, isNumber, amountOf, isCapitals}
+use Rattle.values.specs.Text.{sameList, says}
 use Rattle.message.specs.Segs.{Seg, Stretch, those, each, Name, LIN, MOA5, CUX5, FII6, NAD7, PRC10, SEQ, MOA11, FII12, NAD13, PRC16, FTX16, DOC17, CNT, UNT, is, orders, payments, amounts, details}
 
 -- ---- words

@@ -6,7 +6,7 @@ use mathlib.Core.Bool.{Bool, true, false, _||_}
 use lib.Dec.{eqb}
 use Rattle.service.specs.declared.Service.{Service}
 use Rattle.segments.specs.Classes.{if}
-use Rattle.values.specs.Values.{valueIn}
+use Rattle.values.specs.Numbers.{valueIn}
 use Rattle.segments.specs.SegmentList.{startsOf}
 
 -- a segment: "UNH is 1"; its row of the chart; the value of a component of an element

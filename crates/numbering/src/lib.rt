@@ -2,12 +2,12 @@
 ghost use Prim.Native.Nat.{_+_, min};
 ghost use mathlib.Core.Path.{_≡_};
 ghost use mathlib.Core.Bool.{not, _||_};
-ghost use Rattle.values.specs.Values.{valueIn};
+ghost use Rattle.values.specs.Numbers.{valueIn};
 ghost use Rattle.values.specs.Text.{says};
 ghost use Rattle.message.specs.Segs.{segAt};
 ghost use Rattle.message.specs.Rules.{writes};
-ghost use Rattle.message.specs.ValueLaws.{most};
-ghost use Rattle.numbering.specs.Steps.{numberingStart, numberingStep, lineTaken, sequenceTaken, controlTaken};
+ghost use Rattle.message.specs.forms.Counts.{most};
+ghost use Rattle.numbering.specs.forms.Steps.{numberingStart, numberingStep, lineTaken, sequenceTaken, controlTaken};
 use faults::First;
 use service::Service;
 use values::codes;

@@ -2,7 +2,8 @@
 ghost use mathlib.Core.Path.{_≡_};
 ghost use mathlib.Core.Bool.{Bool, true, false};
 ghost use lib.ListN.{length, take, drop};
-ghost use Rattle.parts.specs.Lex.{tokenAt, lex, elemAt, compAt, valueOf, elements, valueAt};
+ghost use Rattle.parts.specs.forms.Lex.{tokenAt, elemAt, compAt};
+ghost use Rattle.parts.specs.Parts.{lex, valueOf, elements, valueAt};
 use segments::Class;
 use service::Service;
 

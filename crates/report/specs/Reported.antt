@@ -12,7 +12,7 @@ use Rattle.segments.specs.Classes.{if}
 use Rattle.segments.specs.SegmentList.{Piece, startOf, segmentsFrom, startsOf, startAt}
 use Rattle.parts.specs.Parts.{strangeIn, isNil}
 use Rattle.values.specs.Text.{says}
-use Rattle.values.specs.Values.{valueIn}
+use Rattle.values.specs.Numbers.{valueIn}
 use Rattle.interchange.specs.declared.Refusal.{Refusal}
 use Rattle.interchange.specs.Messages.{endsClosed}
 use Rattle.interchange.specs.Envelope.{isReference}

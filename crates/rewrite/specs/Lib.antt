@@ -1,14 +1,4 @@
 pub mod Cases
-pub mod CasesLaws
-pub mod Flat
-pub mod FlatLaws
-pub mod LengthLaws
-pub mod MessagesTheorem
-pub mod OpenLaws
 pub mod Plain
-pub mod PrintLaws
-pub mod PutsLaws
-pub mod ReadLaws
-pub mod RewriteTheorems
-pub mod RoomLaws
-pub mod WriteLaws
+pub mod forms
+pub mod laws

@@ -1,3 +1,3 @@
-pub mod Steps
-pub mod StepLaws
 pub mod Placed
+pub mod forms
+pub mod laws

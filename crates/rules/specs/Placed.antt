@@ -4,7 +4,7 @@ use mathlib.Core.List.{List}
 use Rattle.service.specs.declared.Service.{Service}
 use Rattle.chart.specs.Table.{Table}
 use Rattle.chart.specs.Tags.{tagsOf}
-use Rattle.chart.specs.Next.{rowsOf}
+use Rattle.chart.specs.forms.Next.{rowsOf}
 use Rattle.message.specs.Segs.{Seg, segsOf}
 
 abbrev pub placedOn : Table → Service → List ℕ → List Seg

@@ -9,8 +9,9 @@ use denote.Enum.Declared.{tagOf}
 use Rattle.segments.specs.declared.Class.{Class}
 use Rattle.segments.specs.declared.Class.the-variants.{Plain, Comp, Elem, Rel, Term}
 use Rattle.service.specs.declared.Service.{Service}
-use Rattle.segments.specs.Bytes.{classOf, releaseBy, releaseOf}
-use Rattle.segments.specs.BytesLaws.{release-by}
+use Rattle.segments.specs.Classes.{classOf}
+use Rattle.segments.specs.forms.Bytes.{releaseBy, releaseOf}
+use Rattle.segments.specs.laws.BytesLaws.{release-by}
 use Rattle.segments.proofs.Class.{the-type}
 
 other-by : (v : Service) (k : Class) → OneOf (0 ∷ 1 ∷ 2 ∷ 4 ∷ []) (tagOf the-type k) → v .terminator ≡ releaseBy k v

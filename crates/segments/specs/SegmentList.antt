@@ -96,6 +96,15 @@ startsOf v s = startsFrom v s 0
 abbrev pub startAt : Service → List ℕ → ℕ → ℕ
 startAt v s j = getD (startsOf v s) j (length s)
 
+-- where a segment ends: before its terminator, or at the end of the bytes
+abbrev pub endOf : Piece → ℕ
+endOf (finished a e) = e
+endOf (unfinished a e) = e
+
+-- where the segment ends before which j stand
+abbrev pub endAt : Service → List ℕ → ℕ → ℕ
+endAt v s j = getD (map endOf (segmentsFrom v s 0)) j (length s)
+
 -- whether no segment of a list is unfinished
 unfoldable pub allFinished : List Piece → Bool
 allFinished [] = true

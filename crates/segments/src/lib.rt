@@ -3,8 +3,9 @@ ghost use mathlib.Core.Path.{_≡_};
 ghost use mathlib.Core.Bool.{Bool, true, false, _||_};
 ghost use lib.Dec.{eqb};
 ghost use lib.ListN.{length, take, drop};
-ghost use Rattle.segments.specs.Bytes.{classOf, releaseOf, endFrom, pastBreaks};
-ghost use Rattle.segments.specs.Segments.{segmentAt};
+ghost use Rattle.segments.specs.Classes.{classOf};
+ghost use Rattle.segments.specs.forms.Bytes.{releaseOf, endFrom, pastBreaks};
+ghost use Rattle.segments.specs.forms.Segments.{segmentAt};
 use service::Service;
 
 pub enum Class {

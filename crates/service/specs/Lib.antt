@@ -1,5 +1,2 @@
 pub mod Service
-pub mod ServiceLaws
-pub mod FitLaws
-pub mod Unique
-pub mod UnaLaws
+pub mod laws

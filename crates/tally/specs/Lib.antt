@@ -1,6 +1,4 @@
-pub mod Few
-pub mod FewLaws
 pub mod Tallied
-pub mod TalliedLaws
 pub mod Places
-pub mod PlacesLaws
+pub mod forms
+pub mod laws

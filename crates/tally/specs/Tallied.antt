@@ -7,7 +7,8 @@ use lib.Dec.{eqb}
 use Rattle.service.specs.declared.Service.{Service}
 use Rattle.segments.specs.SegmentList.{Piece, finished, unfinished}
 use Rattle.parts.specs.Written.{strangePlaces}
-use Rattle.values.specs.Values.{valueFrom, codeOf}
+use Rattle.values.specs.Numbers.{valueFrom}
+use Rattle.values.specs.forms.Values.{codeOf}
 use Rattle.faults.specs.declared.First.{First}
 use Rattle.faults.specs.declared.First.the-variants as first
 use Rattle.faults.specs.Firsts.{lesser, placeUnless}

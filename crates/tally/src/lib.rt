@@ -5,7 +5,7 @@ ghost use mathlib.Core.Bool.{not};
 ghost use lib.ListN.{length};
 ghost use Rattle.parts.specs.Parts.{isStrange};
 ghost use Rattle.segments.specs.SegmentList.{segmentsFrom, startAt};
-ghost use Rattle.tally.specs.Few.{Few};
+ghost use Rattle.tally.specs.forms.Few.{Few};
 ghost use Rattle.tally.specs.Places.{passed};
 ghost use Rattle.tally.specs.Tallied.{badBetween, oneIf, finishedOne, unfinishedOne, together, tallyOf};
 use faults::First;

@@ -1,3 +1,2 @@
-pub mod Steps
-pub mod StepLaws
-pub mod Agree
+pub mod forms
+pub mod laws

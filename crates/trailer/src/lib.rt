@@ -1,8 +1,8 @@
 // The trailer: UNT's count is the number of segments, and its reference is UNH's: 17 and 18.
 ghost use mathlib.Core.Path.{_≡_};
-ghost use Rattle.values.specs.Values.{valueIn};
+ghost use Rattle.values.specs.Numbers.{valueIn};
 ghost use Rattle.message.specs.Segs.{segAt};
-ghost use Rattle.trailer.specs.Steps.{trailerStart, trailerStep, taken};
+ghost use Rattle.trailer.specs.forms.Steps.{trailerStart, trailerStep, taken};
 use faults::First;
 use service::Service;
 

@@ -3,7 +3,7 @@ ghost use mathlib.Core.Path.{_≡_};
 ghost use Prim.Native.Nat.{_%_, _≤_};
 ghost use Rattle.interchange.specs.Envelope.{openingNumber, openingOf, closingOf};
 ghost use Rattle.lent.specs.Lists.{lists};
-ghost use Rattle.report.specs.FewLaws.{Few, FewIn};
+ghost use Rattle.report.specs.forms.Few.{Few, FewIn};
 ghost use Rattle.twineherald.specs.Numbers.{acceptedOf, refusedOf, reportOf, nothingOf, stepWith, stepOf, closingNumbers, Stepped, Checked, Rewritten};
 use interchange::Opening;
 use interchange::Refusal;

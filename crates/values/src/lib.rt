@@ -2,7 +2,9 @@
 // the position where it begins.
 ghost use mathlib.Core.Path.{_≡_};
 ghost use lib.ListN.{length};
-ghost use Rattle.values.specs.Values.{valueFrom, nextAt, sameList, numberOf, oneMore, partOf, wholeOf, fraction, amountOf, codeOf, isNumber, isCapital, isCapitals, valueIn};
+ghost use Rattle.values.specs.Numbers.{valueFrom, valueIn};
+ghost use Rattle.values.specs.forms.Values.{nextAt, numberOf, oneMore, partOf, wholeOf, fraction, amountOf, codeOf, isNumber, isCapital, isCapitals};
+ghost use Rattle.values.specs.Text.{sameList};
 
 pub mod codes;
 

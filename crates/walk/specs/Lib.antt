@@ -1,5 +1,3 @@
-pub mod PlaceLaws
 pub mod Frame
-pub mod FrameLaws
 pub mod Walks
-pub mod WalksLaws
+pub mod laws

@@ -1,5 +1,5 @@
 -- `amounts::added` meets its contract. Assumes nothing.
-use Rattle.amounts.specs.StepLaws.{added-by}
+use Rattle.amounts.specs.laws.StepLaws.{added-by}
 use borrow.Author.Needs.{needs}
 use Rattle.amounts.proofs.added.Statement.{statement}
 use Rattle.amounts.proofs.added.Tie as tie

@@ -1,5 +1,5 @@
 -- `amounts::bases_hold` meets its contract. Assumes nothing.
-use Rattle.amounts.specs.StepLaws.{bases-by}
+use Rattle.amounts.specs.laws.StepLaws.{bases-by}
 use borrow.Author.Needs.{needs}
 use Rattle.amounts.proofs.bases_hold.Statement.{statement}
 use Rattle.amounts.proofs.bases_hold.Tie as tie

@@ -1,5 +1,5 @@
 -- `amounts::close` meets its contract. Assumes nothing.
-use Rattle.amounts.specs.StepLaws.{close-by}
+use Rattle.amounts.specs.laws.StepLaws.{close-by}
 use borrow.Author.Needs.{needs}
 use Rattle.amounts.proofs.close.Statement.{statement}
 use Rattle.amounts.proofs.close.Tie as tie

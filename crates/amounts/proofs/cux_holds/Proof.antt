@@ -1,5 +1,5 @@
 -- `amounts::cux_holds` meets its contract. Assumes nothing.
-use Rattle.amounts.specs.StepLaws.{cux-by}
+use Rattle.amounts.specs.laws.StepLaws.{cux-by}
 use borrow.Author.Needs.{needs}
 use Rattle.amounts.proofs.cux_holds.Statement.{statement}
 use Rattle.amounts.proofs.cux_holds.Tie as tie

@@ -1,5 +1,5 @@
 -- `amounts::exchange` meets its contract. Assumes nothing.
-use Rattle.amounts.specs.StepLaws.{exchanged-by}
+use Rattle.amounts.specs.laws.StepLaws.{exchanged-by}
 use borrow.Author.Needs.{needs}
 use Rattle.amounts.proofs.exchange.Statement.{statement}
 use Rattle.amounts.proofs.exchange.Tie as tie

@@ -1,5 +1,5 @@
 -- `amounts::exchange_came` meets its contract. Assumes nothing.
-use Rattle.amounts.specs.StepLaws.{chain-came}
+use Rattle.amounts.specs.laws.StepLaws.{chain-came}
 use borrow.Author.Needs.{needs}
 use Rattle.amounts.proofs.exchange_came.Statement.{statement}
 use Rattle.amounts.proofs.exchange_came.Tie as tie

@@ -1,5 +1,5 @@
 -- `amounts::exchange_holds` meets its contract. Assumes nothing.
-use Rattle.amounts.specs.StepLaws.{chain-and}
+use Rattle.amounts.specs.laws.StepLaws.{chain-and}
 use borrow.Author.Needs.{needs}
 use Rattle.amounts.proofs.exchange_holds.Statement.{statement}
 use Rattle.amounts.proofs.exchange_holds.Tie as tie

@@ -1,5 +1,5 @@
 -- `amounts::formed` meets its contract. Assumes nothing.
-use Rattle.amounts.specs.StepLaws.{form-by}
+use Rattle.amounts.specs.laws.StepLaws.{form-by}
 use borrow.Author.Needs.{needs}
 use Rattle.amounts.proofs.formed.Statement.{statement}
 use Rattle.amounts.proofs.formed.Tie as tie

@@ -1,5 +1,5 @@
 -- `amounts::has_currency` meets its contract. Assumes nothing.
-use Rattle.amounts.specs.StepLaws.{currency-by}
+use Rattle.amounts.specs.laws.StepLaws.{currency-by}
 use borrow.Author.Needs.{needs}
 use Rattle.amounts.proofs.has_currency.Statement.{statement}
 use Rattle.amounts.proofs.has_currency.Tie as tie

@@ -1,5 +1,5 @@
 -- `amounts::has_qualifier` meets its contract. Assumes nothing.
-use Rattle.amounts.specs.StepLaws.{qualifier-by}
+use Rattle.amounts.specs.laws.StepLaws.{qualifier-by}
 use borrow.Author.Needs.{needs}
 use Rattle.amounts.proofs.has_qualifier.Statement.{statement}
 use Rattle.amounts.proofs.has_qualifier.Tie as tie

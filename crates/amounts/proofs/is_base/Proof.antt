@@ -1,5 +1,5 @@
 -- `amounts::is_base` meets its contract. Assumes nothing.
-use Rattle.amounts.specs.StepLaws.{base-by}
+use Rattle.amounts.specs.laws.StepLaws.{base-by}
 use borrow.Author.Needs.{needs}
 use Rattle.amounts.proofs.is_base.Statement.{statement}
 use Rattle.amounts.proofs.is_base.Tie as tie

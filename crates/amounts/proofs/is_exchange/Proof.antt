@@ -1,5 +1,5 @@
 -- `amounts::is_exchange` meets its contract. Assumes nothing.
-use Rattle.amounts.specs.StepLaws.{exchange-by}
+use Rattle.amounts.specs.laws.StepLaws.{exchange-by}
 use borrow.Author.Needs.{needs}
 use Rattle.amounts.proofs.is_exchange.Statement.{statement}
 use Rattle.amounts.proofs.is_exchange.Tie as tie

@@ -1,5 +1,5 @@
 -- `amounts::is_formed` meets its contract. Assumes nothing.
-use Rattle.amounts.specs.StepLaws.{formed-so, formed-not}
+use Rattle.amounts.specs.laws.StepLaws.{formed-so, formed-not}
 use borrow.Author.Needs.{needs}
 use Rattle.amounts.proofs.is_formed.Statement.{statement}
 use Rattle.amounts.proofs.is_formed.Tie as tie

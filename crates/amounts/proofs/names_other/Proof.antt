@@ -1,5 +1,5 @@
 -- `amounts::names_other` meets its contract. Assumes nothing.
-use Rattle.amounts.specs.StepLaws.{other-named}
+use Rattle.amounts.specs.laws.StepLaws.{other-named}
 use borrow.Author.Needs.{needs}
 use Rattle.amounts.proofs.names_other.Statement.{statement}
 use Rattle.amounts.proofs.names_other.Tie as tie

@@ -1,5 +1,5 @@
 -- `amounts::names_own` meets its contract. Assumes nothing.
-use Rattle.amounts.specs.StepLaws.{own-named}
+use Rattle.amounts.specs.laws.StepLaws.{own-named}
 use borrow.Author.Needs.{needs}
 use Rattle.amounts.proofs.names_own.Statement.{statement}
 use Rattle.amounts.proofs.names_own.Tie as tie

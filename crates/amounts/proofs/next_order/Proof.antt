@@ -1,5 +1,5 @@
 -- `amounts::next_order` meets its contract. Assumes nothing.
-use Rattle.amounts.specs.StepLaws.{ended-idle, ended-live}
+use Rattle.amounts.specs.laws.StepLaws.{ended-idle, ended-live}
 use borrow.Author.Needs.{needs}
 use Rattle.amounts.proofs.next_order.Statement.{statement}
 use Rattle.amounts.proofs.next_order.Tie as tie

@@ -1,5 +1,5 @@
 -- `amounts::order_moa` meets its contract. Assumes nothing.
-use Rattle.amounts.specs.StepLaws.{moa-by}
+use Rattle.amounts.specs.laws.StepLaws.{moa-by}
 use borrow.Author.Needs.{needs}
 use Rattle.amounts.proofs.order_moa.Statement.{statement}
 use Rattle.amounts.proofs.order_moa.Tie as tie

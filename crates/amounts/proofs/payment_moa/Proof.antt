@@ -1,5 +1,5 @@
 -- `amounts::payment_moa` meets its contract. Assumes nothing.
-use Rattle.amounts.specs.StepLaws.{paid-by}
+use Rattle.amounts.specs.laws.StepLaws.{paid-by}
 use borrow.Author.Needs.{needs}
 use Rattle.amounts.proofs.payment_moa.Statement.{statement}
 use Rattle.amounts.proofs.payment_moa.Tie as tie

@@ -1,5 +1,5 @@
 -- `amounts::start` meets its contract. Assumes nothing.
-use Rattle.amounts.specs.StepLaws.{start-by}
+use Rattle.amounts.specs.laws.StepLaws.{start-by}
 use borrow.Author.Needs.{needs}
 use Rattle.amounts.proofs.start.Statement.{statement}
 use Rattle.amounts.proofs.start.Tie as tie

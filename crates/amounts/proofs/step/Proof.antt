@@ -1,5 +1,5 @@
 -- `amounts::step` meets its contract. Assumes nothing.
-use Rattle.amounts.specs.StepLaws.{step-lin, step-moa, step-cux, step-paid, step-other, at-lin, at-moa, at-cux, at-paid, at-other}
+use Rattle.amounts.specs.laws.StepLaws.{step-lin, step-moa, step-cux, step-paid, step-other, at-lin, at-moa, at-cux, at-paid, at-other}
 use borrow.Author.Needs.{needs}
 use Rattle.amounts.proofs.step.Statement.{statement}
 use Rattle.amounts.proofs.step.Tie as tie

@@ -1,5 +1,5 @@
 -- `amounts::worth_at` meets its contract. Assumes nothing.
-use Rattle.amounts.specs.StepLaws.{worth-of, worth-not}
+use Rattle.amounts.specs.laws.StepLaws.{worth-of, worth-not}
 use borrow.Author.Needs.{needs}
 use Rattle.amounts.proofs.worth_at.Statement.{statement}
 use Rattle.amounts.proofs.worth_at.Tie as tie

@@ -3,7 +3,7 @@
 use Prim.Native.Nat.{_+_, _-_}
 use denote.Ref.{now}
 use borrow.Author.Needs.{needs}
-use Rattle.chart.specs.Columns.{endOf}
+use Rattle.chart.specs.forms.Columns.{endOf}
 use Rattle.chart.proofs.Nest.{kids-some, kids-fall, first-fits}
 use Rattle.chart.proofs.Walk.{RowInv, RowsInv, row-start, row-leaf, row-again, row-stuck, row-less, row-fits, row-short, row-done, rows-start, rows-it, rows-falls, rows-less, rows-small, rows-again, rows-stuck, rows-done}
 use Prim.Native.Nat.{ℕ, _<_}

@@ -1,5 +1,5 @@
 -- The cursor at a place: its tag is the code of the value there.
-use Rattle.chart.specs.CursorLaws.{cursor-here, cursor-past}
+use Rattle.chart.specs.laws.CursorLaws.{cursor-here, cursor-past}
 use borrow.Author.Needs.{needs}
 use Rattle.chart.proofs.cursor_at.Statement.{statement}
 use Rattle.chart.proofs.cursor_at.Tie as tie

@@ -1,7 +1,7 @@
 -- The rows to try, one after the other; the measure is how many may still be tried. Assumes nothing.
 use mathlib.Core.Path.{_≡_}
 use lib.ListN.{length}
-use Rattle.chart.specs.Next.{chainFrom, findIn, nextRow}
+use Rattle.chart.specs.forms.Next.{chainFrom, findIn, nextRow}
 use Rattle.chart.proofs.Stream.{find-start, find-past, find-none, find-here, find-on}
 use borrow.Author.Needs.{needs}
 use Rattle.chart.proofs.next_row.Statement.{statement}

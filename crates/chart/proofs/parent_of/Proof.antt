@@ -1,5 +1,5 @@
 -- The column of the row's line. Assumes nothing.
-use Rattle.chart.specs.Columns.{parentOf}
+use Rattle.chart.specs.forms.Columns.{parentOf}
 use borrow.Author.Needs.{needs}
 use Rattle.chart.proofs.parent_of.Statement.{statement}
 use Rattle.chart.proofs.parent_of.Tie as tie

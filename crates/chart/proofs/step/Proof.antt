@@ -1,5 +1,5 @@
 -- The next cursor, by the segment at this one.
-use Rattle.chart.specs.CursorLaws.{stepped-next, stepped-end, stepped-nothing}
+use Rattle.chart.specs.laws.CursorLaws.{stepped-next, stepped-end, stepped-nothing}
 use borrow.Author.Needs.{needs}
 use Rattle.chart.proofs.step.Statement.{statement}
 use Rattle.chart.proofs.step.Tie as tie

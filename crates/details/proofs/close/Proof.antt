@@ -1,5 +1,5 @@
 -- `details::close` meets its contract. Assumes nothing.
-use Rattle.details.specs.StepLaws.{closed}
+use Rattle.details.specs.laws.StepLaws.{closed}
 use borrow.Author.Needs.{needs}
 use Rattle.details.proofs.close.Statement.{statement}
 use Rattle.details.proofs.close.Tie as tie

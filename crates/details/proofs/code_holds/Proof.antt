@@ -1,5 +1,5 @@
 -- `details::code_holds` meets its contract. Assumes nothing.
-use Rattle.details.specs.StepLaws.{holds-by}
+use Rattle.details.specs.laws.StepLaws.{holds-by}
 use borrow.Author.Needs.{needs}
 use Rattle.details.proofs.code_holds.Statement.{statement}
 use Rattle.details.proofs.code_holds.Tie as tie

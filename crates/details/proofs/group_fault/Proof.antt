@@ -1,5 +1,5 @@
 -- `details::group_fault` meets its contract. Assumes nothing.
-use Rattle.details.specs.StepLaws.{group-none, group-at}
+use Rattle.details.specs.laws.StepLaws.{group-none, group-at}
 use borrow.Author.Needs.{needs}
 use Rattle.details.proofs.group_fault.Statement.{statement}
 use Rattle.details.proofs.group_fault.Tie as tie

@@ -1,5 +1,5 @@
 -- `details::inside` meets its contract. Assumes nothing.
-use Rattle.details.specs.StepLaws.{step-common, step-text, step-documents, step-other}
+use Rattle.details.specs.laws.StepLaws.{step-common, step-text, step-documents, step-other}
 use borrow.Author.Needs.{needs}
 use Rattle.details.proofs.inside.Statement.{statement}
 use Rattle.details.proofs.inside.Tie as tie

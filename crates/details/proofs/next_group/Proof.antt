@@ -1,5 +1,5 @@
 -- `details::next_group` meets its contract. Assumes nothing.
-use Rattle.details.specs.StepLaws.{next-group-by}
+use Rattle.details.specs.laws.StepLaws.{next-group-by}
 use borrow.Author.Needs.{needs}
 use Rattle.details.proofs.next_group.Statement.{statement}
 use Rattle.details.proofs.next_group.Tie as tie

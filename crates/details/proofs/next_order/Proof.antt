@@ -1,5 +1,5 @@
 -- `details::next_order` meets its contract. Assumes nothing.
-use Rattle.details.specs.StepLaws.{next-order-by}
+use Rattle.details.specs.laws.StepLaws.{next-order-by}
 use borrow.Author.Needs.{needs}
 use Rattle.details.proofs.next_order.Statement.{statement}
 use Rattle.details.proofs.next_order.Tie as tie

@@ -1,5 +1,5 @@
 -- `details::opened` meets its contract. Assumes nothing.
-use Rattle.details.specs.StepLaws.{opened-by}
+use Rattle.details.specs.laws.StepLaws.{opened-by}
 use borrow.Author.Needs.{needs}
 use Rattle.details.proofs.opened.Statement.{statement}
 use Rattle.details.proofs.opened.Tie as tie

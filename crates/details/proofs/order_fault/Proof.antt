@@ -1,5 +1,5 @@
 -- `details::order_fault` meets its contract. Assumes nothing.
-use Rattle.details.specs.StepLaws.{common-so, common-not, common-idle}
+use Rattle.details.specs.laws.StepLaws.{common-so, common-not, common-idle}
 use borrow.Author.Needs.{needs}
 use Rattle.details.proofs.order_fault.Statement.{statement}
 use Rattle.details.proofs.order_fault.Tie as tie

@@ -1,5 +1,5 @@
 -- `details::step` meets its contract. Assumes nothing.
-use Rattle.details.specs.StepLaws.{step-lin, step-seq, step-prc}
+use Rattle.details.specs.laws.StepLaws.{step-lin, step-seq, step-prc}
 use borrow.Author.Needs.{needs}
 use Rattle.details.proofs.step.Statement.{statement}
 use Rattle.details.proofs.step.Tie as tie

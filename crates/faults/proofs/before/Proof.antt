@@ -1,5 +1,5 @@
 -- `faults::before` meets its contract. Assumes nothing.
-use Rattle.faults.specs.FirstsLaws.{number-none, number-place}
+use Rattle.faults.specs.laws.FirstsLaws.{number-none, number-place}
 use borrow.Author.Needs.{needs}
 use Rattle.faults.proofs.before.Statement.{statement}
 use Rattle.faults.proofs.before.Tie as tie

@@ -1,5 +1,5 @@
 -- `faults::earlier` meets its contract. Assumes nothing.
-use Rattle.faults.specs.FirstsLaws.{lesser-none, lesser-one, lesser-first, lesser-second}
+use Rattle.faults.specs.laws.FirstsLaws.{lesser-none, lesser-one, lesser-first, lesser-second}
 use borrow.Author.Needs.{needs}
 use Rattle.faults.proofs.earlier.Statement.{statement}
 use Rattle.faults.proofs.earlier.Tie as tie

@@ -1,5 +1,5 @@
 -- `faults::keep` meets its contract. Assumes nothing.
-use Rattle.faults.specs.FirstsLaws.{keep-by}
+use Rattle.faults.specs.laws.FirstsLaws.{keep-by}
 use borrow.Author.Needs.{needs}
 use Rattle.faults.proofs.keep.Statement.{statement}
 use Rattle.faults.proofs.keep.Tie as tie

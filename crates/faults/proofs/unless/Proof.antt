@@ -1,5 +1,5 @@
 -- `faults::unless` meets its contract. Assumes nothing.
-use Rattle.faults.specs.FirstsLaws.{unless-holds, unless-fails}
+use Rattle.faults.specs.laws.FirstsLaws.{unless-holds, unless-fails}
 use borrow.Author.Needs.{needs}
 use Rattle.faults.proofs.unless.Statement.{statement}
 use Rattle.faults.proofs.unless.Tie as tie

@@ -1,6 +1,6 @@
 -- `interchange::close` meets its contract. Assumes nothing.
-use Rattle.interchange.specs.SurveyLaws.{past-within, past-body}
-use Rattle.interchange.specs.CloseLaws.{close-refused, close-opens}
+use Rattle.interchange.specs.laws.SurveyLaws.{past-within, past-body}
+use Rattle.interchange.specs.laws.CloseLaws.{close-refused, close-opens}
 use borrow.Author.Needs.{needs}
 use Rattle.interchange.proofs.close.Statement.{statement}
 use Rattle.interchange.proofs.close.Tie as tie

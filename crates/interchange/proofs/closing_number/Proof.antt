@@ -1,5 +1,5 @@
 -- `interchange::closing_number` meets its contract. Assumes nothing.
-use Rattle.interchange.specs.CloseLaws.{closing-count, closing-reference, closing-strays, closing-well}
+use Rattle.interchange.specs.laws.CloseLaws.{closing-count, closing-reference, closing-strays, closing-well}
 use borrow.Author.Needs.{needs}
 use Rattle.interchange.proofs.closing_number.Statement.{statement}
 use Rattle.interchange.proofs.closing_number.Tie as tie

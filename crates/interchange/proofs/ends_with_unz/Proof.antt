@@ -4,9 +4,9 @@ use Prim.Native.Nat.{_-_}
 use mathlib.Core.Path.{_≡_}
 use lib.ListN.{length}
 use Rattle.segments.specs.SegmentList.{segmentsFrom}
-use Rattle.segments.specs.SegmentsLaws.{less-segment}
+use Rattle.segments.specs.laws.SegmentsLaws.{less-segment}
 use Rattle.interchange.specs.Envelope.{ended, lastUnz}
-use Rattle.interchange.specs.OpenLaws.{unz-done, unz-cut, unz-on}
+use Rattle.interchange.specs.laws.OpenLaws.{unz-done, unz-cut, unz-on}
 use Rattle.interchange.proofs.ends_with_unz.Statement.{statement}
 use Rattle.interchange.proofs.ends_with_unz.Tie as tie
 use Rattle.interchange.proofs.ends_with_unz.Reads as reads

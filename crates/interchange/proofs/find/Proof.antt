@@ -4,9 +4,9 @@ use Prim.Native.Nat.{_-_}
 use mathlib.Core.Path.{_≡_}
 use lib.ListN.{length}
 use Rattle.segments.specs.SegmentList.{segmentsFrom}
-use Rattle.segments.specs.SegmentsLaws.{less-segment}
+use Rattle.segments.specs.laws.SegmentsLaws.{less-segment}
 use Rattle.interchange.specs.Messages.{foundIn, foundFrom}
-use Rattle.interchange.specs.FindLaws.{found-start, find-nothing, find-cut, find-head, find-on}
+use Rattle.interchange.specs.laws.FindLaws.{found-start, find-nothing, find-cut, find-head, find-on}
 use Rattle.interchange.proofs.find.Statement.{statement}
 use Rattle.interchange.proofs.find.Tie as tie
 use Rattle.interchange.proofs.find.Reads as reads

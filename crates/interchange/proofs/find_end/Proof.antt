@@ -4,8 +4,9 @@ use Prim.Native.Nat.{_-_}
 use mathlib.Core.Path.{_≡_}
 use lib.ListN.{length}
 use Rattle.segments.specs.SegmentList.{segmentsFrom}
-use Rattle.segments.specs.SegmentsLaws.{less-segment, segment-end-fits}
-use Rattle.interchange.specs.FindLaws.{endFound, end-nothing, end-cut, end-trailer, end-head, end-last, end-on}
+use Rattle.segments.specs.laws.SegmentsLaws.{less-segment, segment-end-fits}
+use Rattle.interchange.specs.forms.Found.{endFound}
+use Rattle.interchange.specs.laws.FindLaws.{end-nothing, end-cut, end-trailer, end-head, end-last, end-on}
 use Rattle.interchange.proofs.find_end.Statement.{statement}
 use Rattle.interchange.proofs.find_end.Tie as tie
 use Rattle.interchange.proofs.find_end.Reads as reads

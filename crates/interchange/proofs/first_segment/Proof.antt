@@ -1,5 +1,5 @@
 -- `interchange::first_segment` meets its contract. Assumes nothing.
-use Rattle.interchange.specs.OpenLaws.{first-zero, first-after}
+use Rattle.interchange.specs.laws.OpenLaws.{first-zero, first-after}
 use borrow.Author.Needs.{needs}
 use Rattle.interchange.proofs.first_segment.Statement.{statement}
 use Rattle.interchange.proofs.first_segment.Tie as tie

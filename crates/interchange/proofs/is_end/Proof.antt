@@ -1,6 +1,6 @@
 -- `interchange::is_end` meets its contract. Assumes nothing.
 use borrow.Author.Needs.{needs}
-use Rattle.interchange.specs.KindLaws.{end-unz, end-other}
+use Rattle.interchange.specs.laws.KindLaws.{end-unz, end-other}
 use Rattle.interchange.proofs.is_end.Statement.{statement}
 use Rattle.interchange.proofs.is_end.Tie as tie
 use Rattle.interchange.proofs.is_end.Reads as reads

@@ -1,5 +1,5 @@
 -- `interchange::is_header` meets its contract. Assumes nothing.
-use Rattle.interchange.specs.OpenLaws.{header-tag, header-version, header-reference}
+use Rattle.interchange.specs.laws.OpenLaws.{header-tag, header-version, header-reference}
 use borrow.Author.Needs.{needs}
 use Rattle.interchange.proofs.is_header.Statement.{statement}
 use Rattle.interchange.proofs.is_header.Tie as tie

@@ -1,6 +1,6 @@
 -- `interchange::is_reference` meets its contract. Assumes nothing.
 use borrow.Author.Needs.{needs}
-use Rattle.interchange.specs.OpenLaws.{reference-none, reference-some}
+use Rattle.interchange.specs.laws.OpenLaws.{reference-none, reference-some}
 use Rattle.interchange.proofs.is_reference.Statement.{statement}
 use Rattle.interchange.proofs.is_reference.Tie as tie
 use Rattle.interchange.proofs.is_reference.Reads as reads

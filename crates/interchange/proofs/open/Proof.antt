@@ -1,5 +1,5 @@
 -- `interchange::open` meets its contract. Assumes nothing.
-use Rattle.interchange.specs.OpenLaws.{open-long, open-unfit, open-fit}
+use Rattle.interchange.specs.laws.OpenLaws.{open-long, open-unfit, open-fit}
 use borrow.Author.Needs.{needs}
 use Rattle.interchange.proofs.open.Statement.{statement}
 use Rattle.interchange.proofs.open.Tie as tie

@@ -1,5 +1,5 @@
 -- `interchange::open_with` meets its contract. Assumes nothing.
-use Rattle.interchange.specs.OpenLaws.{open-headless, open-endless, open-whole}
+use Rattle.interchange.specs.laws.OpenLaws.{open-headless, open-endless, open-whole}
 use borrow.Author.Needs.{needs}
 use Rattle.interchange.proofs.open_with.Statement.{statement}
 use Rattle.interchange.proofs.open_with.Tie as tie

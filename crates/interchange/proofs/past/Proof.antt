@@ -1,5 +1,5 @@
 -- `interchange::past` meets its contract. Assumes nothing.
-use Rattle.interchange.specs.SurveyLaws.{past-finished, past-unfinished, past-nothing}
+use Rattle.interchange.specs.laws.SurveyLaws.{past-finished, past-unfinished, past-nothing}
 use borrow.Author.Needs.{needs}
 use Rattle.interchange.proofs.past.Statement.{statement}
 use Rattle.interchange.proofs.past.Tie as tie

@@ -12,9 +12,10 @@ use Rattle.segments.proofs.Segment.{the-type}
 use Rattle.segments.specs.declared.Segment.{Segment}
 use Rattle.segments.specs.declared.Segment.the-variants.{Finished, Unfinished, Nothing}
 use Rattle.segments.specs.SegmentList.{segmentsFrom}
-use Rattle.segments.specs.SegmentsLaws.{less-segment, segment-count-fits, segment-count, segment-keep}
+use Rattle.segments.specs.laws.SegmentsLaws.{less-segment, segment-count-fits, segment-count, segment-keep}
 use Rattle.interchange.specs.Messages.{messagesOf, straysOf}
-use Rattle.interchange.specs.SurveyLaws.{stopOf, farther, far-keep, count-done, stray-done, stop-done, count-last, stray-last, stop-last, count-head, stray-head, stop-head, count-on, stop-on, stray-inside, stray-outside}
+use Rattle.interchange.specs.forms.Survey.{stopOf, farther}
+use Rattle.interchange.specs.laws.SurveyLaws.{far-keep, count-done, stray-done, stop-done, count-last, stray-last, stop-last, count-head, stray-head, stop-head, count-on, stop-on, stray-inside, stray-outside}
 use Rattle.interchange.proofs.survey_of.Statement.{statement}
 use Rattle.interchange.proofs.survey_of.Tie as tie
 use Rattle.interchange.proofs.survey_of.Reads as reads

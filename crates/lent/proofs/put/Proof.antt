@@ -1,6 +1,6 @@
 -- `lent::put` meets its contract. Assumes nothing.
 use borrow.Author.Needs.{needs}
-use Rattle.lent.specs.PutsLaws.{puts-set, puts-full, set-full, past-set, past-full}
+use Rattle.lent.specs.laws.PutsLaws.{puts-set, puts-full, set-full, past-set, past-full}
 use borrow.Author.Needs.{needs}
 use Rattle.lent.proofs.put.Statement.{statement}
 use Rattle.lent.proofs.put.Tie as tie

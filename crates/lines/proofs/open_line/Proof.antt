@@ -1,5 +1,5 @@
 -- `lines::open_line` meets its contract. Assumes nothing.
-use Rattle.lines.specs.LinesLaws.{made-within, made-length, made-lined}
+use Rattle.lines.specs.laws.LinesLaws.{made-within, made-length, made-lined}
 use borrow.Author.Needs.{needs}
 use Rattle.lines.proofs.open_line.Statement.{statement}
 use Rattle.lines.proofs.open_line.Tie as tie

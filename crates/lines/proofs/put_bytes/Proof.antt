@@ -2,8 +2,8 @@
 use borrow.Author.Needs.{needs}
 use Prim.Native.Nat.{_-_}
 use lib.ListN.{length, drop}
-use Rattle.lent.specs.Puts.{Putting}
-use Rattle.lines.specs.LinesLaws.{bytes-start, bytes-put, bytes-done}
+use Rattle.lent.specs.forms.Puts.{Putting}
+use Rattle.lines.specs.laws.LinesLaws.{bytes-start, bytes-put, bytes-done}
 use Rattle.lines.proofs.put_bytes.Statement.{statement}
 use Rattle.lines.proofs.put_bytes.Tie as tie
 use Rattle.lines.proofs.put_bytes.Reads as reads

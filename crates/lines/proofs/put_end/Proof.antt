@@ -1,7 +1,7 @@
 -- `lines::put_end` meets its contract. Assumes nothing.
 use borrow.Author.Needs.{needs}
 use Rattle.values.specs.Text.{text}
-use Rattle.lines.specs.LinesLaws.{end-put, end-short}
+use Rattle.lines.specs.laws.LinesLaws.{end-put, end-short}
 use Rattle.lines.proofs.put_end.Statement.{statement}
 use Rattle.lines.proofs.put_end.Tie as tie
 use Rattle.lines.proofs.put_end.Reads as reads

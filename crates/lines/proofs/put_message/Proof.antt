@@ -1,5 +1,5 @@
 -- `lines::put_message` meets its contract. Assumes nothing.
-use Rattle.lines.specs.LinesLaws.{told-put, told-short}
+use Rattle.lines.specs.laws.LinesLaws.{told-put, told-short}
 use borrow.Author.Needs.{needs}
 use Rattle.lines.proofs.put_message.Statement.{statement}
 use Rattle.lines.proofs.put_message.Tie as tie

@@ -1,7 +1,7 @@
 -- `lines::put_number` meets its contract. Assumes nothing.
 use borrow.Author.Needs.{needs}
-use Rattle.lines.specs.DecimalLaws.{decimal-short}
-use Rattle.lines.specs.LinesLaws.{number-put}
+use Rattle.lines.specs.laws.DecimalLaws.{decimal-short}
+use Rattle.lines.specs.laws.LinesLaws.{number-put}
 use Rattle.lines.proofs.put_number.Statement.{statement}
 use Rattle.lines.proofs.put_number.Tie as tie
 use Rattle.lines.proofs.put_number.Reads as reads

@@ -1,7 +1,7 @@
 -- `lines::put_open` meets its contract. Assumes nothing.
 use borrow.Author.Needs.{needs}
 use Rattle.values.specs.Text.{text}
-use Rattle.lines.specs.LinesLaws.{open-put, open-short}
+use Rattle.lines.specs.laws.LinesLaws.{open-put, open-short}
 use Rattle.lines.proofs.put_open.Statement.{statement}
 use Rattle.lines.proofs.put_open.Tie as tie
 use Rattle.lines.proofs.put_open.Reads as reads

@@ -1,7 +1,7 @@
 -- `lines::put_refused` meets its contract. Assumes nothing.
 use borrow.Author.Needs.{needs}
 use Rattle.values.specs.Text.{text}
-use Rattle.lines.specs.LinesLaws.{message-put, message-short}
+use Rattle.lines.specs.laws.LinesLaws.{message-put, message-short}
 use Rattle.lines.proofs.put_refused.Statement.{statement}
 use Rattle.lines.proofs.put_refused.Tie as tie
 use Rattle.lines.proofs.put_refused.Reads as reads

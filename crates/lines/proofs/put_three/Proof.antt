@@ -1,6 +1,6 @@
 -- `lines::put_three` meets its contract. Assumes nothing.
 use borrow.Author.Needs.{needs}
-use Rattle.lines.specs.LinesLaws.{three-put, three-short}
+use Rattle.lines.specs.laws.LinesLaws.{three-put, three-short}
 use Rattle.lines.proofs.put_three.Statement.{statement}
 use Rattle.lines.proofs.put_three.Tie as tie
 use Rattle.lines.proofs.put_three.Reads as reads

@@ -1,6 +1,6 @@
 -- `lines::put_word` meets its contract. Assumes nothing.
 use borrow.Author.Needs.{needs}
-use Rattle.lines.specs.LinesLaws.{word-put}
+use Rattle.lines.specs.laws.LinesLaws.{word-put}
 use Rattle.lines.proofs.put_word.Statement.{statement}
 use Rattle.lines.proofs.put_word.Tie as tie
 use Rattle.lines.proofs.put_word.Reads as reads

@@ -1,6 +1,6 @@
 -- `lines::show` meets its contract. Assumes nothing.
 use borrow.Author.Needs.{needs}
-use Rattle.lines.specs.LinesLaws.{show-long, show-fits}
+use Rattle.lines.specs.laws.LinesLaws.{show-long, show-fits}
 use Rattle.lines.proofs.show.Statement.{statement}
 use Rattle.lines.proofs.show.Tie as tie
 use Rattle.lines.proofs.show.Reads as reads

@@ -1,7 +1,7 @@
 -- `listing::put_segments_on` meets its contract. The invariant: k segments are listed and the cursor stands at the next. Assumes nothing.
 use borrow.Author.Needs.{needs}
 use Prim.Native.Nat.{_-_}
-use Rattle.listing.specs.ListingLaws.{rows-short, starts-short, rows-short-starts, starts-short-starts}
+use Rattle.listing.specs.laws.ListingLaws.{rows-short, starts-short, rows-short-starts, starts-short-starts}
 use Rattle.listing.proofs.Segments.{Lists, lists-first, lists-room-rows, lists-room-starts, lists-next, rows-last, starts-last, rows-end, starts-end}
 use Rattle.listing.proofs.put_segments_on.Statement.{statement}
 use Rattle.listing.proofs.put_segments_on.Tie as tie

@@ -1,6 +1,6 @@
 -- `listing::put_total` meets its contract. Assumes nothing.
 use borrow.Author.Needs.{needs}
-use Rattle.listing.specs.Steps.{other, full}
+use Rattle.listing.specs.forms.Steps.{other, full}
 use Rattle.listing.proofs.Totals.{total-put}
 use Rattle.listing.proofs.put_total.Statement.{statement}
 use Rattle.listing.proofs.put_total.Tie as tie

@@ -2,8 +2,8 @@
 use borrow.Author.Needs.{needs}
 use Prim.Native.Nat.{_-_}
 use lib.ListN.{length}
-use Rattle.chart.specs.CursorLaws.{onward-less}
-use Rattle.listing.specs.ListingLaws.{totals-short}
+use Rattle.chart.specs.laws.CursorLaws.{onward-less}
+use Rattle.listing.specs.laws.ListingLaws.{totals-short}
 use Rattle.listing.proofs.Totals.{Totals, totals-first, totals-next, totals-last, totals-end}
 use Rattle.listing.proofs.put_totals_on.Statement.{statement}
 use Rattle.listing.proofs.put_totals_on.Tie as tie

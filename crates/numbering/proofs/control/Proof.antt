@@ -1,5 +1,5 @@
 -- `numbering::control` meets its contract. Assumes nothing.
-use Rattle.numbering.specs.StepLaws.{control-by}
+use Rattle.numbering.specs.laws.StepLaws.{control-by}
 use borrow.Author.Needs.{needs}
 use Rattle.numbering.proofs.control.Statement.{statement}
 use Rattle.numbering.proofs.control.Tie as tie

@@ -1,5 +1,5 @@
 -- `numbering::control_holds` meets its contract. Assumes nothing.
-use Rattle.numbering.specs.StepLaws.{two-so, two-not}
+use Rattle.numbering.specs.laws.StepLaws.{two-so, two-not}
 use borrow.Author.Needs.{needs}
 use Rattle.numbering.proofs.control_holds.Statement.{statement}
 use Rattle.numbering.proofs.control_holds.Tie as tie

@@ -1,5 +1,5 @@
 -- `numbering::line` meets its contract. Assumes nothing.
-use Rattle.numbering.specs.StepLaws.{line-by}
+use Rattle.numbering.specs.laws.StepLaws.{line-by}
 use borrow.Author.Needs.{needs}
 use Rattle.numbering.proofs.line.Statement.{statement}
 use Rattle.numbering.proofs.line.Tie as tie

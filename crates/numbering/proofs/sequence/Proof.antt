@@ -1,5 +1,5 @@
 -- `numbering::sequence` meets its contract. Assumes nothing.
-use Rattle.numbering.specs.StepLaws.{sequence-by}
+use Rattle.numbering.specs.laws.StepLaws.{sequence-by}
 use borrow.Author.Needs.{needs}
 use Rattle.numbering.proofs.sequence.Statement.{statement}
 use Rattle.numbering.proofs.sequence.Tie as tie

@@ -1,5 +1,5 @@
 -- `numbering::sequence_holds` meets its contract. Assumes nothing.
-use Rattle.numbering.specs.StepLaws.{implies-so, implies-not}
+use Rattle.numbering.specs.laws.StepLaws.{implies-so, implies-not}
 use borrow.Author.Needs.{needs}
 use Rattle.numbering.proofs.sequence_holds.Statement.{statement}
 use Rattle.numbering.proofs.sequence_holds.Tie as tie

@@ -1,5 +1,5 @@
 -- `numbering::step` meets its contract. Assumes nothing.
-use Rattle.numbering.specs.StepLaws.{step-line, step-sequence, step-control, step-other}
+use Rattle.numbering.specs.laws.StepLaws.{step-line, step-sequence, step-control, step-other}
 use borrow.Author.Needs.{needs}
 use Rattle.numbering.proofs.step.Statement.{statement}
 use Rattle.numbering.proofs.step.Tie as tie

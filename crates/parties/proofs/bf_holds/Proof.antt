@@ -1,5 +1,5 @@
 -- `parties::bf_holds` meets its contract. Assumes nothing.
-use Rattle.parties.specs.StepLaws.{bf-none, bf-some}
+use Rattle.parties.specs.laws.StepLaws.{bf-none, bf-some}
 use borrow.Author.Needs.{needs}
 use Rattle.parties.proofs.bf_holds.Statement.{statement}
 use Rattle.parties.proofs.bf_holds.Tie as tie

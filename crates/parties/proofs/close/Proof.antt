@@ -1,5 +1,5 @@
 -- `parties::close` meets its contract. Assumes nothing.
-use Rattle.parties.specs.StepLaws.{closed}
+use Rattle.parties.specs.laws.StepLaws.{closed}
 use borrow.Author.Needs.{needs}
 use Rattle.parties.proofs.close.Statement.{statement}
 use Rattle.parties.proofs.close.Tie as tie

@@ -1,5 +1,5 @@
 -- `parties::has_name` meets its contract. Assumes nothing.
-use Rattle.parties.specs.StepLaws.{name-second, name-first}
+use Rattle.parties.specs.laws.StepLaws.{name-second, name-first}
 use borrow.Author.Needs.{needs}
 use Rattle.parties.proofs.has_name.Statement.{statement}
 use Rattle.parties.proofs.has_name.Tie as tie

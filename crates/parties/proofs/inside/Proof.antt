@@ -1,5 +1,5 @@
 -- `parties::inside` meets its contract. Assumes nothing.
-use Rattle.parties.specs.StepLaws.{step-order-fii, step-order-nad, step-payment-fii, step-payment-nad, step-other}
+use Rattle.parties.specs.laws.StepLaws.{step-order-fii, step-order-nad, step-payment-fii, step-payment-nad, step-other}
 use borrow.Author.Needs.{needs}
 use Rattle.parties.proofs.inside.Statement.{statement}
 use Rattle.parties.proofs.inside.Tie as tie

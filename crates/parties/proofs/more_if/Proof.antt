@@ -1,5 +1,5 @@
 -- `parties::more_if` meets its contract. Assumes nothing.
-use Rattle.parties.specs.StepLaws.{more-one, more-two, more-none}
+use Rattle.parties.specs.laws.StepLaws.{more-one, more-two, more-none}
 use borrow.Author.Needs.{needs}
 use Rattle.parties.proofs.more_if.Statement.{statement}
 use Rattle.parties.proofs.more_if.Tie as tie

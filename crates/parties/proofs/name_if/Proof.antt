@@ -1,5 +1,5 @@
 -- `parties::name_if` meets its contract. Assumes nothing.
-use Rattle.parties.specs.StepLaws.{name-before, name-now, name-none}
+use Rattle.parties.specs.laws.StepLaws.{name-before, name-now, name-none}
 use borrow.Author.Needs.{needs}
 use Rattle.parties.proofs.name_if.Statement.{statement}
 use Rattle.parties.proofs.name_if.Tie as tie

@@ -1,5 +1,5 @@
 -- `parties::next_order` meets its contract. Assumes nothing.
-use Rattle.parties.specs.StepLaws.{next-order-by}
+use Rattle.parties.specs.laws.StepLaws.{next-order-by}
 use borrow.Author.Needs.{needs}
 use Rattle.parties.proofs.next_order.Statement.{statement}
 use Rattle.parties.proofs.next_order.Tie as tie

@@ -1,5 +1,5 @@
 -- `parties::next_payment` meets its contract. Assumes nothing.
-use Rattle.parties.specs.StepLaws.{next-payment-by}
+use Rattle.parties.specs.laws.StepLaws.{next-payment-by}
 use borrow.Author.Needs.{needs}
 use Rattle.parties.proofs.next_payment.Statement.{statement}
 use Rattle.parties.proofs.next_payment.Tie as tie

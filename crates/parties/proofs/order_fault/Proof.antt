@@ -1,5 +1,5 @@
 -- `parties::order_fault` meets its contract. Assumes nothing.
-use Rattle.parties.specs.StepLaws.{order-none, order-at}
+use Rattle.parties.specs.laws.StepLaws.{order-none, order-at}
 use borrow.Author.Needs.{needs}
 use Rattle.parties.proofs.order_fault.Statement.{statement}
 use Rattle.parties.proofs.order_fault.Tie as tie

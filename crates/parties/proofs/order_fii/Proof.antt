@@ -1,5 +1,5 @@
 -- `parties::order_fii` meets its contract. Assumes nothing.
-use Rattle.parties.specs.StepLaws.{order-fii-by}
+use Rattle.parties.specs.laws.StepLaws.{order-fii-by}
 use borrow.Author.Needs.{needs}
 use Rattle.parties.proofs.order_fii.Statement.{statement}
 use Rattle.parties.proofs.order_fii.Tie as tie

@@ -1,5 +1,5 @@
 -- `parties::order_holds` meets its contract. Assumes nothing.
-use Rattle.parties.specs.StepLaws.{order-by}
+use Rattle.parties.specs.laws.StepLaws.{order-by}
 use borrow.Author.Needs.{needs}
 use Rattle.parties.proofs.order_holds.Statement.{statement}
 use Rattle.parties.proofs.order_holds.Tie as tie

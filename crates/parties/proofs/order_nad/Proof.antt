@@ -1,5 +1,5 @@
 -- `parties::order_nad` meets its contract. Assumes nothing.
-use Rattle.parties.specs.StepLaws.{order-nad-by}
+use Rattle.parties.specs.laws.StepLaws.{order-nad-by}
 use borrow.Author.Needs.{needs}
 use Rattle.parties.proofs.order_nad.Statement.{statement}
 use Rattle.parties.proofs.order_nad.Tie as tie

@@ -1,5 +1,5 @@
 -- `parties::payment_fault` meets its contract. Assumes nothing.
-use Rattle.parties.specs.StepLaws.{payment-none, payment-at}
+use Rattle.parties.specs.laws.StepLaws.{payment-none, payment-at}
 use borrow.Author.Needs.{needs}
 use Rattle.parties.proofs.payment_fault.Statement.{statement}
 use Rattle.parties.proofs.payment_fault.Tie as tie

@@ -1,5 +1,5 @@
 -- `parties::payment_fii` meets its contract. Assumes nothing.
-use Rattle.parties.specs.StepLaws.{payment-fii-by}
+use Rattle.parties.specs.laws.StepLaws.{payment-fii-by}
 use borrow.Author.Needs.{needs}
 use Rattle.parties.proofs.payment_fii.Statement.{statement}
 use Rattle.parties.proofs.payment_fii.Tie as tie

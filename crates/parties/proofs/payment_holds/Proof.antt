@@ -1,5 +1,5 @@
 -- `parties::payment_holds` meets its contract. Assumes nothing.
-use Rattle.parties.specs.StepLaws.{payment-by}
+use Rattle.parties.specs.laws.StepLaws.{payment-by}
 use borrow.Author.Needs.{needs}
 use Rattle.parties.proofs.payment_holds.Statement.{statement}
 use Rattle.parties.proofs.payment_holds.Tie as tie

@@ -1,5 +1,5 @@
 -- `parties::payment_nad` meets its contract. Assumes nothing.
-use Rattle.parties.specs.StepLaws.{payment-nad-by}
+use Rattle.parties.specs.laws.StepLaws.{payment-nad-by}
 use borrow.Author.Needs.{needs}
 use Rattle.parties.proofs.payment_nad.Statement.{statement}
 use Rattle.parties.proofs.payment_nad.Tie as tie

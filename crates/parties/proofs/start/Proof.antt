@@ -1,5 +1,5 @@
 -- `parties::start` meets its contract. Assumes nothing.
-use Rattle.parties.specs.StepLaws.{start-by}
+use Rattle.parties.specs.laws.StepLaws.{start-by}
 use borrow.Author.Needs.{needs}
 use Rattle.parties.proofs.start.Statement.{statement}
 use Rattle.parties.proofs.start.Tie as tie

@@ -1,5 +1,5 @@
 -- `parties::step` meets its contract. Assumes nothing.
-use Rattle.parties.specs.StepLaws.{step-lin, step-seq}
+use Rattle.parties.specs.laws.StepLaws.{step-lin, step-seq}
 use borrow.Author.Needs.{needs}
 use Rattle.parties.proofs.step.Statement.{statement}
 use Rattle.parties.proofs.step.Tie as tie

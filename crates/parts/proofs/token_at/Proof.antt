@@ -1,5 +1,5 @@
 -- `parts::token_at` meets its contract: each `return` is one law on `tokenAt`, whose premises are the tests that led there. Assumes nothing.
-use Rattle.parts.specs.LexLaws.{token-none, token-plain, token-comp, token-elem, token-term, token-rel, token-cut}
+use Rattle.parts.specs.laws.LexLaws.{token-none, token-plain, token-comp, token-elem, token-term, token-rel, token-cut}
 use borrow.Author.Needs.{needs}
 use Rattle.parts.proofs.token_at.Statement.{statement}
 use Rattle.parts.proofs.token_at.Tie as tie

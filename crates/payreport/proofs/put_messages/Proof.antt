@@ -3,8 +3,8 @@ use borrow.Author.Needs.{needs}
 use Prim.Native.Nat.{_-_}
 use mathlib.Core.Path.{_≡_}
 use lib.ListN.{length}
-use Rattle.walk.specs.PlaceLaws.{walk-less, walk-count-fits, walk-add-fits}
-use Rattle.payreport.specs.PrintedLaws.{Standing, stand-first, told-line, told-next, none-left, none-more}
+use Rattle.walk.specs.laws.PlaceLaws.{walk-less, walk-count-fits, walk-add-fits}
+use Rattle.payreport.specs.laws.PrintedLaws.{Standing, stand-first, told-line, told-next, none-left, none-more}
 use Rattle.payreport.proofs.put_messages.Statement.{statement}
 use Rattle.payreport.proofs.put_messages.Tie as tie
 use Rattle.payreport.proofs.put_messages.Reads as reads

@@ -1,6 +1,6 @@
 -- `payreport::put_open` meets its contract: what it hands over is the line. Assumes nothing.
-use Rattle.lines.specs.LinesLaws.{held-within, held-length}
-use Rattle.payreport.specs.PrintedLaws.{held-line}
+use Rattle.lines.specs.laws.LinesLaws.{held-within, held-length}
+use Rattle.payreport.specs.laws.PrintedLaws.{held-line}
 use borrow.Author.Needs.{needs}
 use Rattle.payreport.proofs.put_open.Statement.{statement}
 use Rattle.payreport.proofs.put_open.Tie as tie

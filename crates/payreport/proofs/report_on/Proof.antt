@@ -1,5 +1,5 @@
 -- `payreport::report_on` meets its contract. Assumes nothing.
-use Rattle.payreport.specs.PrintedLaws.{opened-so, unopened-line}
+use Rattle.payreport.specs.laws.PrintedLaws.{opened-so, unopened-line}
 use borrow.Author.Needs.{needs}
 use Rattle.payreport.proofs.report_on.Statement.{statement}
 use Rattle.payreport.proofs.report_on.Tie as tie

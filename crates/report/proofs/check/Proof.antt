@@ -1,5 +1,5 @@
 -- `report::check` meets its contract. Assumes nothing.
-use Rattle.report.specs.CheckLaws.{check-outright, check-byte, check-early, check-room, check-late, check-done}
+use Rattle.report.specs.laws.CheckLaws.{check-outright, check-byte, check-early, check-room, check-late, check-done}
 use borrow.Author.Needs.{needs}
 use Rattle.report.proofs.check.Statement.{statement}
 use Rattle.report.proofs.check.Tie as tie

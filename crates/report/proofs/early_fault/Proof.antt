@@ -1,5 +1,5 @@
 -- `report::early_fault` meets its contract. Assumes nothing.
-use Rattle.report.specs.ChecksLaws.{early-unclosed, early-header, early-many, early-none}
+use Rattle.report.specs.laws.ChecksLaws.{early-unclosed, early-header, early-many, early-none}
 use borrow.Author.Needs.{needs}
 use Rattle.report.proofs.early_fault.Statement.{statement}
 use Rattle.report.proofs.early_fault.Tie as tie

@@ -1,5 +1,5 @@
 -- `report::fits` meets its contract. Assumes nothing.
-use Rattle.report.specs.ChecksLaws.{fits-by}
+use Rattle.report.specs.laws.ChecksLaws.{fits-by}
 use borrow.Author.Needs.{needs}
 use Rattle.report.proofs.fits.Statement.{statement}
 use Rattle.report.proofs.fits.Tie as tie

@@ -1,5 +1,5 @@
 -- `report::has_header` meets its contract. Assumes nothing.
-use Rattle.report.specs.ChecksLaws.{header-by}
+use Rattle.report.specs.laws.ChecksLaws.{header-by}
 use borrow.Author.Needs.{needs}
 use Rattle.report.proofs.has_header.Statement.{statement}
 use Rattle.report.proofs.has_header.Tie as tie

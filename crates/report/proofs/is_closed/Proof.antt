@@ -1,6 +1,6 @@
 -- `report::is_closed` meets its contract. Assumes nothing.
-use Rattle.report.specs.ChecksLaws.{closed-none, closed-end, closed-unfinished, closed-nothing}
-use Rattle.segments.specs.SegmentsLaws.{segment-end-fits}
+use Rattle.report.specs.laws.ChecksLaws.{closed-none, closed-end, closed-unfinished, closed-nothing}
+use Rattle.segments.specs.laws.SegmentsLaws.{segment-end-fits}
 use borrow.Author.Needs.{needs}
 use Rattle.report.proofs.is_closed.Statement.{statement}
 use Rattle.report.proofs.is_closed.Tie as tie

@@ -1,5 +1,5 @@
 -- `report::is_paymul` meets its contract. Assumes nothing.
-use Rattle.report.specs.ChecksLaws.{typed-by}
+use Rattle.report.specs.laws.ChecksLaws.{typed-by}
 use borrow.Author.Needs.{needs}
 use Rattle.report.proofs.is_paymul.Statement.{statement}
 use Rattle.report.proofs.is_paymul.Tie as tie

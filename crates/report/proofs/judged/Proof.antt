@@ -1,5 +1,5 @@
 -- `report::judged` meets its contract. Assumes nothing.
-use Rattle.rules.specs.StepLaws.{judged-paymul}
+use Rattle.rules.specs.laws.StepLaws.{judged-paymul}
 use borrow.Author.Needs.{needs}
 use Rattle.report.proofs.judged.Statement.{statement}
 use Rattle.report.proofs.judged.Tie as tie

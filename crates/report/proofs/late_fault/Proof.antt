@@ -1,5 +1,5 @@
 -- `report::late_fault` meets its contract. Assumes nothing.
-use Rattle.report.specs.ChecksLaws.{late-placed, late-stuck}
+use Rattle.report.specs.laws.ChecksLaws.{late-placed, late-stuck}
 use borrow.Author.Needs.{needs}
 use Rattle.report.proofs.late_fault.Statement.{statement}
 use Rattle.report.proofs.late_fault.Tie as tie

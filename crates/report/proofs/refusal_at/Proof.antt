@@ -1,5 +1,5 @@
 -- `report::refusal_at` meets its contract. Assumes nothing.
-use Rattle.report.specs.ChecksLaws.{refusal-by}
+use Rattle.report.specs.laws.ChecksLaws.{refusal-by}
 use borrow.Author.Needs.{needs}
 use Rattle.report.proofs.refusal_at.Statement.{statement}
 use Rattle.report.proofs.refusal_at.Tie as tie

@@ -1,5 +1,5 @@
 -- `report::refusal_of_byte` meets its contract. Assumes nothing.
-use Rattle.report.specs.ChecksLaws.{byte-by}
+use Rattle.report.specs.laws.ChecksLaws.{byte-by}
 use borrow.Author.Needs.{needs}
 use Rattle.report.proofs.refusal_of_byte.Statement.{statement}
 use Rattle.report.proofs.refusal_of_byte.Tie as tie

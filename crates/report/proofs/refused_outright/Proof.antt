@@ -1,5 +1,5 @@
 -- `report::refused_outright` meets its contract. Assumes nothing.
-use Rattle.report.specs.ChecksLaws.{outright-long, outright-fit, outright-unfit}
+use Rattle.report.specs.laws.ChecksLaws.{outright-long, outright-fit, outright-unfit}
 use borrow.Author.Needs.{needs}
 use Rattle.report.proofs.refused_outright.Statement.{statement}
 use Rattle.report.proofs.refused_outright.Tie as tie

@@ -1,5 +1,5 @@
 -- `report::start_of` meets its contract. Assumes nothing.
-use Rattle.report.specs.ChecksLaws.{start-none, start-some}
+use Rattle.report.specs.laws.ChecksLaws.{start-none, start-some}
 use borrow.Author.Needs.{needs}
 use Rattle.report.proofs.start_of.Statement.{statement}
 use Rattle.report.proofs.start_of.Tie as tie

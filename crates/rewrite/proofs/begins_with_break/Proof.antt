@@ -1,6 +1,6 @@
 -- `rewrite::begins_with_break` meets its contract. Assumes nothing.
 use borrow.Author.Needs.{needs}
-use Rattle.rewrite.specs.LengthLaws.{leads-cr, leads-lf, leads-comp, leads-elem, leads-stop}
+use Rattle.rewrite.specs.laws.LengthLaws.{leads-cr, leads-lf, leads-comp, leads-elem, leads-stop}
 use borrow.Author.Needs.{needs}
 use Rattle.rewrite.proofs.begins_with_break.Statement.{statement}
 use Rattle.rewrite.proofs.begins_with_break.Tie as tie

@@ -1,6 +1,6 @@
 -- `rewrite::fits_room` meets its contract. Assumes nothing.
 use borrow.Author.Needs.{needs}
-use Rattle.rewrite.specs.RoomLaws.{fits-long, fits-short}
+use Rattle.rewrite.specs.laws.RoomLaws.{fits-long, fits-short}
 use Rattle.rewrite.proofs.fits_room.Statement.{statement}
 use Rattle.rewrite.proofs.fits_room.Tie as tie
 use Rattle.rewrite.proofs.fits_room.Reads as reads

@@ -4,9 +4,9 @@ use Prim.Native.Nat.{_-_}
 use mathlib.Core.Bool.{false}
 use lib.ListN.{length, drop}
 use Rattle.parts.specs.Parts.{lex}
-use Rattle.parts.specs.LexLaws.{less-byte, less-comp, less-elem}
-use Rattle.rewrite.specs.Flat.{flat}
-use Rattle.rewrite.specs.LengthLaws.{Counted, counted-start, count-add, count-sum, count-width, count-one-comp, count-one-elem, count-most, count-byte, count-comp, count-elem, count-stop}
+use Rattle.parts.specs.laws.LexLaws.{less-byte, less-comp, less-elem}
+use Rattle.rewrite.specs.forms.Flat.{flat}
+use Rattle.rewrite.specs.laws.LengthLaws.{Counted, counted-start, count-add, count-sum, count-width, count-one-comp, count-one-elem, count-most, count-byte, count-comp, count-elem, count-stop}
 use Rattle.rewrite.proofs.flat_length.Statement.{statement}
 use Rattle.rewrite.proofs.flat_length.Tie as tie
 use Rattle.rewrite.proofs.flat_length.Reads as reads

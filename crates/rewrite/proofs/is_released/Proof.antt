@@ -1,6 +1,6 @@
 -- `rewrite::is_released` meets its contract. Assumes nothing.
 use borrow.Author.Needs.{needs}
-use Rattle.rewrite.specs.LengthLaws.{released-comp, released-elem, released-rel, released-term}
+use Rattle.rewrite.specs.laws.LengthLaws.{released-comp, released-elem, released-rel, released-term}
 use Rattle.rewrite.proofs.is_released.Statement.{statement}
 use Rattle.rewrite.proofs.is_released.Tie as tie
 use Rattle.rewrite.proofs.is_released.Reads as reads

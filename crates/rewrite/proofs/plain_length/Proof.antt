@@ -1,6 +1,6 @@
 -- `rewrite::plain_length` meets its contract. Assumes nothing.
 use borrow.Author.Needs.{needs}
-use Rattle.rewrite.specs.LengthLaws.{length-led, length-plain}
+use Rattle.rewrite.specs.laws.LengthLaws.{length-led, length-plain}
 use borrow.Author.Needs.{needs}
 use Rattle.rewrite.proofs.plain_length.Statement.{statement}
 use Rattle.rewrite.proofs.plain_length.Tie as tie

@@ -4,9 +4,9 @@ use Prim.Native.Nat.{_-_}
 use mathlib.Core.Bool.{false}
 use lib.ListN.{length, drop}
 use Rattle.parts.specs.Parts.{lex}
-use Rattle.parts.specs.LexLaws.{less-byte, less-comp, less-elem}
-use Rattle.rewrite.specs.Flat.{flat}
-use Rattle.rewrite.specs.WriteLaws.{Flowing, flow-start, flow-byte, flow-comp, flow-elem, flow-stop, flow-comp-fits, flow-elem-fits}
+use Rattle.parts.specs.laws.LexLaws.{less-byte, less-comp, less-elem}
+use Rattle.rewrite.specs.forms.Flat.{flat}
+use Rattle.rewrite.specs.laws.WriteLaws.{Flowing, flow-start, flow-byte, flow-comp, flow-elem, flow-stop, flow-comp-fits, flow-elem-fits}
 use Rattle.rewrite.proofs.put_flat.Statement.{statement}
 use Rattle.rewrite.proofs.put_flat.Tie as tie
 use Rattle.rewrite.proofs.put_flat.Reads as reads

@@ -1,6 +1,6 @@
 -- `rewrite::put_lead` meets its contract. Assumes nothing.
 use borrow.Author.Needs.{needs}
-use Rattle.rewrite.specs.WriteLaws.{lead-put, lead-none}
+use Rattle.rewrite.specs.laws.WriteLaws.{lead-put, lead-none}
 use borrow.Author.Needs.{needs}
 use Rattle.rewrite.proofs.put_lead.Statement.{statement}
 use Rattle.rewrite.proofs.put_lead.Tie as tie

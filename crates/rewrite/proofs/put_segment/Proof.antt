@@ -1,6 +1,6 @@
 -- `rewrite::put_segment` meets its contract. Assumes nothing.
 use borrow.Author.Needs.{needs}
-use Rattle.rewrite.specs.WriteLaws.{segment-put}
+use Rattle.rewrite.specs.laws.WriteLaws.{segment-put}
 use borrow.Author.Needs.{needs}
 use Rattle.rewrite.proofs.put_segment.Statement.{statement}
 use Rattle.rewrite.proofs.put_segment.Tie as tie

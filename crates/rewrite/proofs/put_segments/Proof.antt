@@ -2,12 +2,12 @@
 use borrow.Author.Needs.{needs}
 use Prim.Native.Nat.{_-_}
 use lib.ListN.{length}
-use Rattle.segments.specs.SegmentsLaws.{less-segment}
+use Rattle.segments.specs.laws.SegmentsLaws.{less-segment}
 use Rattle.parts.specs.Trimmed.{valuesFrom}
-use Rattle.lent.specs.Puts.{Putting}
-use Rattle.lent.specs.PutsLaws.{putting-start}
+use Rattle.lent.specs.forms.Puts.{Putting}
+use Rattle.lent.specs.laws.PutsLaws.{putting-start}
 use Rattle.rewrite.specs.Plain.{plain}
-use Rattle.rewrite.specs.WriteLaws.{segments-put, segments-unfinished, segments-nothing}
+use Rattle.rewrite.specs.laws.WriteLaws.{segments-put, segments-unfinished, segments-nothing}
 use Rattle.rewrite.proofs.put_segments.Statement.{statement}
 use Rattle.rewrite.proofs.put_segments.Tie as tie
 use Rattle.rewrite.proofs.put_segments.Reads as reads

@@ -1,9 +1,9 @@
 -- `rewrite::put_times` meets its contract. The invariant: so many are left to put. Assumes nothing.
 use borrow.Author.Needs.{needs}
 use lib.ListN.{replicate}
-use Rattle.lent.specs.Puts.{Putting}
-use Rattle.lent.specs.PutsLaws.{putting-start}
-use Rattle.rewrite.specs.PutsLaws.{times-put, times-done}
+use Rattle.lent.specs.forms.Puts.{Putting}
+use Rattle.lent.specs.laws.PutsLaws.{putting-start}
+use Rattle.rewrite.specs.laws.PutsLaws.{times-put, times-done}
 use Rattle.rewrite.proofs.put_times.Statement.{statement}
 use Rattle.rewrite.proofs.put_times.Tie as tie
 use Rattle.rewrite.proofs.put_times.Reads as reads

@@ -1,6 +1,6 @@
 -- `rewrite::put_value_byte` meets its contract. Assumes nothing.
 use borrow.Author.Needs.{needs}
-use Rattle.rewrite.specs.PutsLaws.{byte-released, byte-plain}
+use Rattle.rewrite.specs.laws.PutsLaws.{byte-released, byte-plain}
 use borrow.Author.Needs.{needs}
 use Rattle.rewrite.proofs.put_value_byte.Statement.{statement}
 use Rattle.rewrite.proofs.put_value_byte.Tie as tie

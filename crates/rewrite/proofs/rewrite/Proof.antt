@@ -1,7 +1,7 @@
 -- `rewrite::rewrite` meets its contract. Assumes nothing.
 use borrow.Author.Needs.{needs}
-use Rattle.interchange.specs.WithinLaws.{opened-short}
-use Rattle.rewrite.specs.RoomLaws.{refused-answer, refused-room, long-answer, long-room, written-answer, written-room}
+use Rattle.interchange.specs.laws.WithinLaws.{opened-short}
+use Rattle.rewrite.specs.laws.RoomLaws.{refused-answer, refused-room, long-answer, long-room, written-answer, written-room}
 use borrow.Author.Needs.{needs}
 use Rattle.rewrite.proofs.rewrite.Statement.{statement}
 use Rattle.rewrite.proofs.rewrite.Tie as tie

@@ -2,10 +2,10 @@
 use borrow.Author.Needs.{needs}
 use Prim.Native.Nat.{_-_}
 use lib.ListN.{length}
-use Rattle.segments.specs.SegmentsLaws.{less-segment}
+use Rattle.segments.specs.laws.SegmentsLaws.{less-segment}
 use Rattle.parts.specs.Trimmed.{valuesFrom}
 use Rattle.rewrite.specs.Plain.{plain}
-use Rattle.rewrite.specs.LengthLaws.{Summed, summed-start, sum-unfinished, sum-nothing, sum-fits, sum-one-fits, sum-next}
+use Rattle.rewrite.specs.laws.LengthLaws.{Summed, summed-start, sum-unfinished, sum-nothing, sum-fits, sum-one-fits, sum-next}
 use Rattle.rewrite.proofs.total_length.Statement.{statement}
 use Rattle.rewrite.proofs.total_length.Tie as tie
 use Rattle.rewrite.proofs.total_length.Reads as reads

@@ -1,6 +1,6 @@
 -- `rewrite::width` meets its contract. Assumes nothing.
 use borrow.Author.Needs.{needs}
-use Rattle.rewrite.specs.LengthLaws.{width-two, width-one}
+use Rattle.rewrite.specs.laws.LengthLaws.{width-two, width-one}
 use borrow.Author.Needs.{needs}
 use Rattle.rewrite.proofs.width.Statement.{statement}
 use Rattle.rewrite.proofs.width.Tie as tie

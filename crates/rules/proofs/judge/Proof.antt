@@ -1,5 +1,5 @@
 -- `rules::judge` meets its contract. Assumes nothing.
-use Rattle.rules.specs.StepLaws.{judged}
+use Rattle.rules.specs.laws.StepLaws.{judged}
 use borrow.Author.Needs.{needs}
 use Rattle.rules.proofs.judge.Statement.{statement}
 use Rattle.rules.proofs.judge.Tie as tie

@@ -1,5 +1,5 @@
 -- `rules::of_amounts` meets its contract. Assumes nothing.
-use Rattle.rules.specs.StepLaws.{amounts-by}
+use Rattle.rules.specs.laws.StepLaws.{amounts-by}
 use borrow.Author.Needs.{needs}
 use Rattle.rules.proofs.of_amounts.Statement.{statement}
 use Rattle.rules.proofs.of_amounts.Tie as tie

@@ -1,5 +1,5 @@
 -- `rules::of_numbers` meets its contract. Assumes nothing.
-use Rattle.rules.specs.StepLaws.{numbers-by}
+use Rattle.rules.specs.laws.StepLaws.{numbers-by}
 use borrow.Author.Needs.{needs}
 use Rattle.rules.proofs.of_numbers.Statement.{statement}
 use Rattle.rules.proofs.of_numbers.Tie as tie

@@ -1,5 +1,5 @@
 -- `rules::of_trailer` meets its contract. Assumes nothing.
-use Rattle.rules.specs.StepLaws.{trailer-by}
+use Rattle.rules.specs.laws.StepLaws.{trailer-by}
 use borrow.Author.Needs.{needs}
 use Rattle.rules.proofs.of_trailer.Statement.{statement}
 use Rattle.rules.proofs.of_trailer.Tie as tie

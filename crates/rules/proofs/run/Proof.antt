@@ -1,10 +1,9 @@
 -- `rules::run` meets its contract. Assumes nothing.
-use Rattle.rules.specs.StepLaws.{judging-first, judging-fits, judging-next, judging-end}
-use Rattle.chart.specs.CursorLaws.{onward-less}
+use Rattle.rules.specs.laws.StepLaws.{judging-first, judging-fits, judging-next, judging-end, Judging}
+use Rattle.chart.specs.laws.CursorLaws.{onward-less}
 use borrow.Author.Needs.{needs}
 use Prim.Native.Nat.{_-_}
 use lib.ListN.{length}
-use Rattle.rules.specs.StepLaws.{Judging}
 use Rattle.rules.proofs.run.Statement.{statement}
 use Rattle.rules.proofs.run.Tie as tie
 use Rattle.rules.proofs.run.Reads as reads

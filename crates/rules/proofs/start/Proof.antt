@@ -1,5 +1,5 @@
 -- `rules::start` meets its contract. Assumes nothing.
-use Rattle.rules.specs.StepLaws.{start-by}
+use Rattle.rules.specs.laws.StepLaws.{start-by}
 use borrow.Author.Needs.{needs}
 use Rattle.rules.proofs.start.Statement.{statement}
 use Rattle.rules.proofs.start.Tie as tie

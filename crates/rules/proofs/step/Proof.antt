@@ -1,5 +1,5 @@
 -- `rules::step` meets its contract. Assumes nothing.
-use Rattle.rules.specs.StepLaws.{step-by}
+use Rattle.rules.specs.laws.StepLaws.{step-by}
 use borrow.Author.Needs.{needs}
 use Rattle.rules.proofs.step.Statement.{statement}
 use Rattle.rules.proofs.step.Tie as tie

@@ -1,5 +1,5 @@
 -- `segments::classify` meets its contract: at each `return` the tests that led there say which case of `classOf` holds. Assumes nothing.
-use Rattle.segments.specs.BytesLaws.{class-term, class-elem, class-comp, class-rel, class-plain, class-plain′}
+use Rattle.segments.specs.laws.BytesLaws.{class-term, class-elem, class-comp, class-rel, class-plain, class-plain′}
 use Rattle.segments.proofs.classify.Statement.{statement}
 use Rattle.segments.proofs.classify.Tie as tie
 

@@ -5,8 +5,8 @@ use mathlib.Core.Bool.{false}
 use native.Mathlib.Omega.{arith}
 use borrow.Author.Needs.{needs}
 use lib.ListN.{length, drop}
-use Rattle.segments.specs.Bytes.{endFrom}
-use Rattle.segments.specs.BytesLaws.{end-four}
+use Rattle.segments.specs.forms.Bytes.{endFrom}
+use Rattle.segments.specs.laws.BytesLaws.{end-four}
 use Rattle.segments.proofs.pass_fours.Statement.{statement}
 use Rattle.segments.proofs.pass_fours.Tie as tie
 use Rattle.segments.proofs.pass_fours.Reads as reads

@@ -1,6 +1,6 @@
 -- `segments::release_of` meets its contract. Assumes nothing.
 use borrow.Author.Needs.{needs}
-use Rattle.segments.specs.BytesLaws.{release-rel}
+use Rattle.segments.specs.laws.BytesLaws.{release-rel}
 use Rattle.segments.proofs.Laws.{release-other}
 use Rattle.segments.proofs.release_of.Statement.{statement}
 use Rattle.segments.proofs.release_of.Tie as tie

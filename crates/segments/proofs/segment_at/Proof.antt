@@ -1,5 +1,5 @@
 -- `segments::segment_at` meets its contract. Assumes nothing.
-use Rattle.segments.specs.SegmentsLaws.{segment-nothing, segment-unfinished, segment-finished, segment-fits}
+use Rattle.segments.specs.laws.SegmentsLaws.{segment-nothing, segment-unfinished, segment-finished, segment-fits}
 use borrow.Author.Needs.{needs}
 use Rattle.segments.proofs.segment_at.Statement.{statement}
 use Rattle.segments.proofs.segment_at.Tie as tie

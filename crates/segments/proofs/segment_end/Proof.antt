@@ -4,8 +4,8 @@ use mathlib.Core.Path.{_≡_}
 use mathlib.Core.Bool.{false}
 use borrow.Author.Needs.{needs}
 use lib.ListN.{length, drop}
-use Rattle.segments.specs.Bytes.{endFrom}
-use Rattle.segments.specs.BytesLaws.{end-none, end-term, end-rel, end-on}
+use Rattle.segments.specs.forms.Bytes.{endFrom}
+use Rattle.segments.specs.laws.BytesLaws.{end-none, end-term, end-rel, end-on}
 use Rattle.segments.proofs.segment_end.Statement.{statement}
 use Rattle.segments.proofs.segment_end.Tie as tie
 use Rattle.segments.proofs.segment_end.Reads as reads

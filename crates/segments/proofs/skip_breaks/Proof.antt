@@ -3,8 +3,8 @@ use Prim.Native.Nat.{_-_}
 use mathlib.Core.Path.{_≡_, refl}
 use native.Mathlib.Omega.{arith}
 use lib.ListN.{length, drop}
-use Rattle.segments.specs.Bytes.{pastBreaks}
-use Rattle.segments.specs.BytesLaws.{breaks-none, breaks-cr, breaks-lf, breaks-end}
+use Rattle.segments.specs.forms.Bytes.{pastBreaks}
+use Rattle.segments.specs.laws.BytesLaws.{breaks-none, breaks-cr, breaks-lf, breaks-end}
 use Rattle.segments.proofs.skip_breaks.Statement.{statement}
 use Rattle.segments.proofs.skip_breaks.Tie as tie
 

@@ -1,5 +1,5 @@
 -- `service::all_differ` meets its contract. Assumes nothing.
-use Rattle.service.specs.ServiceLaws.{differ-first, differ-second, differ-rest}
+use Rattle.service.specs.laws.ServiceLaws.{differ-first, differ-second, differ-rest}
 use borrow.Author.Needs.{needs}
 use Rattle.service.proofs.all_differ.Statement.{statement}
 use Rattle.service.proofs.all_differ.Tie as tie

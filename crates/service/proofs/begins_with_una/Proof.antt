@@ -1,5 +1,5 @@
 -- `service::begins_with_una` meets its contract. Assumes nothing.
-use Rattle.service.specs.ServiceLaws.{una-short, una-first, una-second, una-third}
+use Rattle.service.specs.laws.ServiceLaws.{una-short, una-first, una-second, una-third}
 use borrow.Author.Needs.{needs}
 use Rattle.service.proofs.begins_with_una.Statement.{statement}
 use Rattle.service.proofs.begins_with_una.Tie as tie

@@ -1,5 +1,5 @@
 -- `service::characters_of` meets its contract. Assumes nothing.
-use Rattle.service.specs.ServiceLaws.{characters-without, characters-cut, characters-named}
+use Rattle.service.specs.laws.ServiceLaws.{characters-without, characters-cut, characters-named}
 use borrow.Author.Needs.{needs}
 use Rattle.service.proofs.characters_of.Statement.{statement}
 use Rattle.service.proofs.characters_of.Tie as tie

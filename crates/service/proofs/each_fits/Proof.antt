@@ -1,5 +1,5 @@
 -- `service::each_fits` meets its contract. Assumes nothing.
-use Rattle.service.specs.ServiceLaws.{each-first, each-second, each-third, each-fits}
+use Rattle.service.specs.laws.ServiceLaws.{each-first, each-second, each-third, each-fits}
 use borrow.Author.Needs.{needs}
 use Rattle.service.proofs.each_fits.Statement.{statement}
 use Rattle.service.proofs.each_fits.Tie as tie

@@ -1,5 +1,5 @@
 -- `service::fits` meets its contract. Assumes nothing.
-use Rattle.service.specs.ServiceLaws.{fitting-not, fitting-each}
+use Rattle.service.specs.laws.ServiceLaws.{fitting-not, fitting-each}
 use borrow.Author.Needs.{needs}
 use Rattle.service.proofs.fits.Statement.{statement}
 use Rattle.service.proofs.fits.Tie as tie

@@ -1,6 +1,6 @@
 -- `service::is_alphanumeric` meets its contract. Assumes nothing.
 use borrow.Author.Needs.{needs}
-use Rattle.service.specs.ServiceLaws.{alpha-low, alpha-digit, alpha-between, alpha-capital, alpha-after, alpha-small}
+use Rattle.service.specs.laws.ServiceLaws.{alpha-low, alpha-digit, alpha-between, alpha-capital, alpha-after, alpha-small}
 use Rattle.service.proofs.is_alphanumeric.Statement.{statement}
 use Rattle.service.proofs.is_alphanumeric.Tie as tie
 use Rattle.service.proofs.is_alphanumeric.Reads as reads

@@ -1,6 +1,6 @@
 -- `service::is_mark` meets its contract. Assumes nothing.
 use borrow.Author.Needs.{needs}
-use Rattle.service.specs.ServiceLaws.{mark-comma, mark-dot}
+use Rattle.service.specs.laws.ServiceLaws.{mark-comma, mark-dot}
 use Rattle.service.proofs.is_mark.Statement.{statement}
 use Rattle.service.proofs.is_mark.Tie as tie
 use Rattle.service.proofs.is_mark.Reads as reads

@@ -1,6 +1,6 @@
 -- `service::is_none_of` meets its contract. Assumes nothing.
 use borrow.Author.Needs.{needs}
-use Rattle.service.specs.ServiceLaws.{none-first, none-second, none-third, none-fourth}
+use Rattle.service.specs.laws.ServiceLaws.{none-first, none-second, none-third, none-fourth}
 use Rattle.service.proofs.is_none_of.Statement.{statement}
 use Rattle.service.proofs.is_none_of.Tie as tie
 use Rattle.service.proofs.is_none_of.Reads as reads

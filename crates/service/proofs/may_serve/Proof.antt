@@ -1,5 +1,5 @@
 -- `service::may_serve` meets its contract. Assumes nothing.
-use Rattle.service.specs.ServiceLaws.{serves-low, serves-high, serves-not, serves-so}
+use Rattle.service.specs.laws.ServiceLaws.{serves-low, serves-high, serves-not, serves-so}
 use borrow.Author.Needs.{needs}
 use Rattle.service.proofs.may_serve.Statement.{statement}
 use Rattle.service.proofs.may_serve.Tie as tie

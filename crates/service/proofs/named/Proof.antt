@@ -1,5 +1,5 @@
 -- `service::named` meets its contract. Assumes nothing.
-use Rattle.service.specs.ServiceLaws.{named-no-space, named-no-mark, named-unfit, named-same, named-fit}
+use Rattle.service.specs.laws.ServiceLaws.{named-no-space, named-no-mark, named-unfit, named-same, named-fit}
 use borrow.Author.Needs.{needs}
 use Rattle.service.proofs.named.Statement.{statement}
 use Rattle.service.proofs.named.Tie as tie

@@ -1,5 +1,5 @@
 -- `service::present_differ` meets its contract. Assumes nothing.
-use Rattle.service.specs.ServiceLaws.{present-three, present-not, present-four}
+use Rattle.service.specs.laws.ServiceLaws.{present-three, present-not, present-four}
 use borrow.Author.Needs.{needs}
 use Rattle.service.proofs.present_differ.Statement.{statement}
 use Rattle.service.proofs.present_differ.Tie as tie

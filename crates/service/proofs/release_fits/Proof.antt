@@ -1,5 +1,5 @@
 -- `service::release_fits` meets its contract. Assumes nothing.
-use Rattle.service.specs.ServiceLaws.{release-none, release-fits}
+use Rattle.service.specs.laws.ServiceLaws.{release-none, release-fits}
 use borrow.Author.Needs.{needs}
 use Rattle.service.proofs.release_fits.Statement.{statement}
 use Rattle.service.proofs.release_fits.Tie as tie

@@ -1,5 +1,5 @@
 -- `service::three_differ` meets its contract. Assumes nothing.
-use Rattle.service.specs.ServiceLaws.{three-first, three-second, three-third}
+use Rattle.service.specs.laws.ServiceLaws.{three-first, three-second, three-third}
 use borrow.Author.Needs.{needs}
 use Rattle.service.proofs.three_differ.Statement.{statement}
 use Rattle.service.proofs.three_differ.Tie as tie

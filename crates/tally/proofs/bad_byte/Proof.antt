@@ -2,7 +2,7 @@
 use Prim.Native.Nat.{_-_}
 use mathlib.Core.Path.{_≡_}
 use Rattle.tally.specs.Tallied.{badBetween}
-use Rattle.tally.specs.TalliedLaws.{bad-past, bad-end, bad-here, bad-on}
+use Rattle.tally.specs.laws.TalliedLaws.{bad-past, bad-end, bad-here, bad-on}
 use borrow.Author.Needs.{needs}
 use Rattle.tally.proofs.bad_byte.Statement.{statement}
 use Rattle.tally.proofs.bad_byte.Tie as tie

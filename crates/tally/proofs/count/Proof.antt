@@ -1,5 +1,5 @@
 -- `tally::count` meets its contract. Assumes nothing.
-use Rattle.tally.specs.TalliedLaws.{count-by}
+use Rattle.tally.specs.laws.TalliedLaws.{count-by}
 use borrow.Author.Needs.{needs}
 use Rattle.tally.proofs.count.Statement.{statement}
 use Rattle.tally.proofs.count.Tie as tie

@@ -1,5 +1,5 @@
 -- `tally::count_if` meets its contract. Assumes nothing.
-use Rattle.tally.specs.TalliedLaws.{count-some, count-none}
+use Rattle.tally.specs.laws.TalliedLaws.{count-some, count-none}
 use borrow.Author.Needs.{needs}
 use Rattle.tally.proofs.count_if.Statement.{statement}
 use Rattle.tally.proofs.count_if.Tie as tie

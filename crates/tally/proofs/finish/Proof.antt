@@ -1,5 +1,5 @@
 -- `tally::finish` meets its contract. Assumes nothing.
-use Rattle.tally.specs.TalliedLaws.{finish-by}
+use Rattle.tally.specs.laws.TalliedLaws.{finish-by}
 use borrow.Author.Needs.{needs}
 use Rattle.tally.proofs.finish.Statement.{statement}
 use Rattle.tally.proofs.finish.Tie as tie

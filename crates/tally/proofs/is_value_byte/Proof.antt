@@ -1,5 +1,5 @@
 -- `tally::is_value_byte` meets its contract. Assumes nothing.
-use Rattle.tally.specs.TalliedLaws.{value-low, value-plain, value-high}
+use Rattle.tally.specs.laws.TalliedLaws.{value-low, value-plain, value-high}
 use borrow.Author.Needs.{needs}
 use Rattle.tally.proofs.is_value_byte.Statement.{statement}
 use Rattle.tally.proofs.is_value_byte.Tie as tie

@@ -2,9 +2,9 @@
 use Prim.Native.Nat.{_-_, _≤_}
 use mathlib.Core.Path.{_≡_}
 use lib.ListN.{length, getD}
-use Rattle.segments.specs.SegmentsLaws.{less-segment}
+use Rattle.segments.specs.laws.SegmentsLaws.{less-segment}
 use Rattle.segments.specs.SegmentList.{startsFrom, startAt}
-use Rattle.tally.specs.PlacesLaws.{after-here, after-nothing, after-unfinished, after-on, after-within, after-start}
+use Rattle.tally.specs.laws.PlacesLaws.{after-here, after-nothing, after-unfinished, after-on, after-within, after-start}
 use borrow.Author.Needs.{needs}
 use Rattle.tally.proofs.segment_start.Statement.{statement}
 use Rattle.tally.proofs.segment_start.Tie as tie

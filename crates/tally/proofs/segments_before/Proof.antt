@@ -2,10 +2,10 @@
 use Prim.Native.Nat.{_+_, _-_, _≤_}
 use mathlib.Core.Path.{_≡_}
 use lib.ListN.{length}
-use Rattle.segments.specs.SegmentsLaws.{less-segment, segment-count-fits, segment-count}
+use Rattle.segments.specs.laws.SegmentsLaws.{less-segment, segment-count-fits, segment-count}
 use Rattle.segments.specs.SegmentList.{segmentsFrom}
 use Rattle.tally.specs.Places.{passed}
-use Rattle.tally.specs.PlacesLaws.{passed-nothing, passed-unfinished, passed-here, passed-on}
+use Rattle.tally.specs.laws.PlacesLaws.{passed-nothing, passed-unfinished, passed-here, passed-on}
 use borrow.Author.Needs.{needs}
 use Rattle.tally.proofs.segments_before.Statement.{statement}
 use Rattle.tally.proofs.segments_before.Tie as tie

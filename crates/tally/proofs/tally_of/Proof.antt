@@ -2,12 +2,12 @@
 use Prim.Native.Nat.{_-_}
 use mathlib.Core.Path.{_≡_}
 use lib.ListN.{length}
-use Rattle.segments.specs.SegmentsLaws.{less-segment}
+use Rattle.segments.specs.laws.SegmentsLaws.{less-segment}
 use Rattle.segments.specs.SegmentList.{segmentsFrom}
-use Rattle.tally.specs.Few.{Few}
-use Rattle.tally.specs.FewLaws.{few-here}
+use Rattle.tally.specs.forms.Few.{Few}
+use Rattle.tally.specs.laws.FewLaws.{few-here}
 use Rattle.tally.specs.Tallied.{together, tallyOf}
-use Rattle.tally.specs.TalliedLaws.{tally-start, tally-nothing, tally-unfinished, tally-finished, few-together}
+use Rattle.tally.specs.laws.TalliedLaws.{tally-start, tally-nothing, tally-unfinished, tally-finished, few-together}
 use borrow.Author.Needs.{needs}
 use Rattle.tally.proofs.tally_of.Statement.{statement}
 use Rattle.tally.proofs.tally_of.Tie as tie

@@ -1,5 +1,5 @@
 -- `trailer::held` meets its contract. Assumes nothing.
-use Rattle.trailer.specs.StepLaws.{taken-by}
+use Rattle.trailer.specs.laws.StepLaws.{taken-by}
 use borrow.Author.Needs.{needs}
 use Rattle.trailer.proofs.held.Statement.{statement}
 use Rattle.trailer.proofs.held.Tie as tie

@@ -1,5 +1,5 @@
 -- `trailer::step` meets its contract. Assumes nothing.
-use Rattle.trailer.specs.StepLaws.{step-unt, step-other}
+use Rattle.trailer.specs.laws.StepLaws.{step-unt, step-other}
 use borrow.Author.Needs.{needs}
 use Rattle.trailer.proofs.step.Statement.{statement}
 use Rattle.trailer.proofs.step.Tie as tie

@@ -1,5 +1,5 @@
 -- `twineherald::accepted` meets its contract. Assumes nothing.
-use Rattle.twineherald.specs.NumbersLaws.{accepted-by}
+use Rattle.twineherald.specs.laws.NumbersLaws.{accepted-by}
 use borrow.Author.Needs.{needs}
 use Rattle.twineherald.proofs.accepted.Statement.{statement}
 use Rattle.twineherald.proofs.accepted.Tie as tie

@@ -1,6 +1,6 @@
 -- `twineherald::report_numbers` meets its contract. Assumes nothing.
-use Rattle.twineherald.specs.NumbersLaws.{report-accepted, report-refused}
-use Rattle.report.specs.FewLaws.{accepted-few}
+use Rattle.twineherald.specs.laws.NumbersLaws.{report-accepted, report-refused}
+use Rattle.report.specs.laws.FewLaws.{accepted-few}
 use borrow.Author.Needs.{needs}
 use Rattle.twineherald.proofs.report_numbers.Statement.{statement}
 use Rattle.twineherald.proofs.report_numbers.Tie as tie

@@ -1,5 +1,5 @@
 -- `twineherald::step_numbers` meets its contract. Assumes nothing.
-use Rattle.twineherald.specs.NumbersLaws.{step-by}
+use Rattle.twineherald.specs.laws.NumbersLaws.{step-by}
 use borrow.Author.Needs.{needs}
 use Rattle.twineherald.proofs.step_numbers.Statement.{statement}
 use Rattle.twineherald.proofs.step_numbers.Tie as tie

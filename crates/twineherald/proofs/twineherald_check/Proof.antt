@@ -1,6 +1,6 @@
 -- `twineherald::twineherald_check` meets its contract. Assumes nothing.
-use Rattle.twineherald.specs.NumbersLaws.{check-fit, check-unfit}
-use Rattle.report.specs.FewLaws.{report-few}
+use Rattle.twineherald.specs.laws.NumbersLaws.{check-fit, check-unfit}
+use Rattle.report.specs.laws.FewLaws.{report-few}
 use borrow.Author.Needs.{needs}
 use Rattle.twineherald.proofs.twineherald_check.Statement.{statement}
 use Rattle.twineherald.proofs.twineherald_check.Tie as tie

@@ -1,5 +1,5 @@
 -- Closing answers with its numbers.
-use Rattle.twineherald.specs.NumbersLaws.{closing-by}
+use Rattle.twineherald.specs.laws.NumbersLaws.{closing-by}
 use borrow.Author.Needs.{needs}
 use Rattle.twineherald.proofs.twineherald_close.Statement.{statement}
 use Rattle.twineherald.proofs.twineherald_close.Tie as tie

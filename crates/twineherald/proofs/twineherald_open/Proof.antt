@@ -1,5 +1,5 @@
 -- Opening answers with its number.
-use Rattle.twineherald.specs.NumbersLaws.{open-opens, open-refused}
+use Rattle.twineherald.specs.laws.NumbersLaws.{open-opens, open-refused}
 use borrow.Author.Needs.{needs}
 use Rattle.twineherald.proofs.twineherald_open.Statement.{statement}
 use Rattle.twineherald.proofs.twineherald_open.Tie as tie

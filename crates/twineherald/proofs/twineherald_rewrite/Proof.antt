@@ -1,5 +1,5 @@
 -- `twineherald::twineherald_rewrite` meets its contract. Assumes nothing.
-use Rattle.twineherald.specs.NumbersLaws.{written-by, refused-by}
+use Rattle.twineherald.specs.laws.NumbersLaws.{written-by, refused-by}
 use borrow.Author.Needs.{needs}
 use Rattle.twineherald.proofs.twineherald_rewrite.Statement.{statement}
 use Rattle.twineherald.proofs.twineherald_rewrite.Tie as tie

@@ -1,5 +1,5 @@
 -- `twineherald::twineherald_walk` meets its contract. Assumes nothing.
-use Rattle.twineherald.specs.NumbersLaws.{start-small, end-small, walk-few, step-message, step-nothing, step-refused}
+use Rattle.twineherald.specs.laws.NumbersLaws.{start-small, end-small, walk-few, step-message, step-nothing, step-refused}
 use borrow.Author.Needs.{needs}
 use Rattle.twineherald.proofs.twineherald_walk.Statement.{statement}
 use Rattle.twineherald.proofs.twineherald_walk.Tie as tie

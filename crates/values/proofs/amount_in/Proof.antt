@@ -1,6 +1,6 @@
 -- `values::amount_in` meets its contract. Assumes nothing.
-use Rattle.values.specs.Values.{amountOf}
-use Rattle.values.specs.ValuesLaws.{at-value}
+use Rattle.values.specs.forms.Values.{amountOf}
+use Rattle.values.specs.laws.ValuesLaws.{at-value}
 use borrow.Author.Needs.{needs}
 use Rattle.values.proofs.amount_in.Statement.{statement}
 use Rattle.values.proofs.amount_in.Tie as tie

@@ -3,8 +3,9 @@ use borrow.Author.Needs.{needs}
 use mathlib.Core.Path.{_≡_, refl}
 use Prim.Native.Nat.{_-_}
 use lib.ListN.{length}
-use Rattle.values.specs.Values.{valueFrom, codeFrom, codeOf}
-use Rattle.values.specs.ValuesLaws.{less-next, code-done, code-long, code-more}
+use Rattle.values.specs.Numbers.{valueFrom}
+use Rattle.values.specs.forms.Values.{codeFrom, codeOf}
+use Rattle.values.specs.laws.ValuesLaws.{less-next, code-done, code-long, code-more}
 use Rattle.values.proofs.code_at.Statement.{statement}
 use Rattle.values.proofs.code_at.Tie as tie
 use Rattle.values.proofs.code_at.Reads as reads

@@ -1,6 +1,6 @@
 -- `values::code_in` meets its contract. Assumes nothing.
-use Rattle.values.specs.Values.{codeOf}
-use Rattle.values.specs.ValuesLaws.{at-value}
+use Rattle.values.specs.forms.Values.{codeOf}
+use Rattle.values.specs.laws.ValuesLaws.{at-value}
 use borrow.Author.Needs.{needs}
 use Rattle.values.proofs.code_in.Statement.{statement}
 use Rattle.values.proofs.code_in.Tie as tie

@@ -1,6 +1,6 @@
 -- `values::is_capital` meets its contract. Assumes nothing.
 use borrow.Author.Needs.{needs}
-use Rattle.values.specs.CodeLaws.{capital-low, capital-else}
+use Rattle.values.specs.laws.CodeLaws.{capital-low, capital-else}
 use Rattle.values.proofs.is_capital.Statement.{statement}
 use Rattle.values.proofs.is_capital.Tie as tie
 use Rattle.values.proofs.is_capital.Reads as reads

@@ -1,5 +1,5 @@
 -- `values::is_capitals` meets its contract. Assumes nothing.
-use Rattle.values.specs.CodeLaws.{capitals-other, capitals-first, capitals-second, capitals-third}
+use Rattle.values.specs.laws.CodeLaws.{capitals-other, capitals-first, capitals-second, capitals-third}
 use borrow.Author.Needs.{needs}
 use Rattle.values.proofs.is_capitals.Statement.{statement}
 use Rattle.values.proofs.is_capitals.Tie as tie

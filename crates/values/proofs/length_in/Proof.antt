@@ -1,6 +1,6 @@
 -- `values::length_in` meets its contract. Assumes nothing.
 use lib.ListN.{length}
-use Rattle.values.specs.ValuesLaws.{at-value}
+use Rattle.values.specs.laws.ValuesLaws.{at-value}
 use borrow.Author.Needs.{needs}
 use Rattle.values.proofs.length_in.Statement.{statement}
 use Rattle.values.proofs.length_in.Tie as tie

@@ -1,5 +1,5 @@
 -- `values::number_is` meets its contract. Assumes nothing.
-use Rattle.values.specs.ValuesLaws.{number-is-of, number-is-not}
+use Rattle.values.specs.laws.ValuesLaws.{number-is-of, number-is-not}
 use borrow.Author.Needs.{needs}
 use Rattle.values.proofs.number_is.Statement.{statement}
 use Rattle.values.proofs.number_is.Tie as tie

@@ -1,6 +1,6 @@
 -- `values::one_more` meets its contract. Assumes nothing.
 use mathlib.Core.Logic.{⊎-elim}
-use Rattle.values.specs.AmountLaws.{more-low, more-high, more-large, more-lead, more-next, more-first}
+use Rattle.values.specs.laws.AmountLaws.{more-low, more-high, more-large, more-lead, more-next, more-first}
 use borrow.Author.Needs.{needs}
 use Rattle.values.proofs.one_more.Statement.{statement}
 use Rattle.values.proofs.one_more.Tie as tie

@@ -1,5 +1,5 @@
 -- `values::same_in` meets its contract. Assumes nothing.
-use Rattle.values.specs.ValuesLaws.{at-values}
+use Rattle.values.specs.laws.ValuesLaws.{at-values}
 use borrow.Author.Needs.{needs}
 use Rattle.values.proofs.same_in.Statement.{statement}
 use Rattle.values.proofs.same_in.Tie as tie

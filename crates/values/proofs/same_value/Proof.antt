@@ -3,8 +3,9 @@ use borrow.Author.Needs.{needs}
 use mathlib.Core.Path.{_≡_, refl}
 use Prim.Native.Nat.{_-_}
 use lib.ListN.{length}
-use Rattle.values.specs.Values.{valueFrom, sameList}
-use Rattle.values.specs.ValuesLaws.{less-next, same-both, same-shorter, same-longer, same-other, same-on}
+use Rattle.values.specs.Numbers.{valueFrom}
+use Rattle.values.specs.Text.{sameList}
+use Rattle.values.specs.laws.ValuesLaws.{less-next, same-both, same-shorter, same-longer, same-other, same-on}
 use Rattle.values.proofs.same_value.Statement.{statement}
 use Rattle.values.proofs.same_value.Tie as tie
 use Rattle.values.proofs.same_value.Reads as reads

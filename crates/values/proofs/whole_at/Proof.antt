@@ -3,9 +3,10 @@ use Prim.Native.Nat.{_-_}
 use mathlib.Core.Path.{_≡_, refl}
 use borrow.Author.Needs.{needs}
 use lib.ListN.{length}
-use Rattle.values.specs.Values.{valueFrom, units, wholeOf}
-use Rattle.values.specs.ValuesLaws.{less-next}
-use Rattle.values.specs.AmountLaws.{unit-ends, unit-none, unit-mark, unit-lone, unit-other, unit-more}
+use Rattle.values.specs.Numbers.{valueFrom}
+use Rattle.values.specs.forms.Values.{units, wholeOf}
+use Rattle.values.specs.laws.ValuesLaws.{less-next}
+use Rattle.values.specs.laws.AmountLaws.{unit-ends, unit-none, unit-mark, unit-lone, unit-other, unit-more}
 use Rattle.values.proofs.whole_at.Statement.{statement}
 use Rattle.values.proofs.whole_at.Tie as tie
 use Rattle.values.proofs.whole_at.Reads as reads

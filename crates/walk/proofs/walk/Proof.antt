@@ -1,5 +1,5 @@
 -- `walk::walk` meets its contract. Assumes nothing.
-use Rattle.walk.specs.WalksLaws.{walk-long, walk-fit, walk-unfit}
+use Rattle.walk.specs.laws.WalksLaws.{walk-long, walk-fit, walk-unfit}
 use borrow.Author.Needs.{needs}
 use Rattle.walk.proofs.walk.Statement.{statement}
 use Rattle.walk.proofs.walk.Tie as tie

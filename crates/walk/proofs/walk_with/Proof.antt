@@ -1,6 +1,6 @@
 -- `walk::walk_with` meets its contract. Assumes nothing.
-use Rattle.walk.specs.PlaceLaws.{part-order, part-within}
-use Rattle.walk.specs.WalksLaws.{finds-past, finds-message, finds-nothing, finds-unfinished}
+use Rattle.walk.specs.laws.PlaceLaws.{part-order, part-within}
+use Rattle.walk.specs.laws.WalksLaws.{finds-past, finds-message, finds-nothing, finds-unfinished}
 use borrow.Author.Needs.{needs}
 use Rattle.walk.proofs.walk_with.Statement.{statement}
 use Rattle.walk.proofs.walk_with.Tie as tie

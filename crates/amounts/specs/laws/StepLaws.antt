@@ -1,0 +1,174 @@
+-- The code's ways through a step of amounts. Assumes nothing.
+use Prim.Native.Nat.{ℕ, _+_, min}
+use mathlib.Core.Path.{_≡_, refl, sym, ap, _∙_}
+use mathlib.Core.List.{List}
+use mathlib.Core.Bool.{Bool, true, false, not, _&&_, _||_}
+use lib.Dec.{eqb}
+use borrow.Author.Tests.{eq-eqb, ne-eqb}
+use Rattle.segments.specs.Classes.{if}
+use Rattle.service.specs.declared.Service.{Service}
+use Rattle.values.specs.declared.Amount.{Amount}
+use Rattle.values.specs.declared.Amount.the-variants.{Of, Not}
+use Rattle.values.specs.Numbers.{valueIn}
+use Rattle.values.specs.forms.Values.{codeFrom, codeOf, amountOf, isCapitals}
+use Rattle.values.specs.Text.{sameList, text, says}
+use Rattle.values.specs.laws.TextLaws.{says-code}
+use Rattle.faults.specs.declared.First.{First}
+use Rattle.faults.specs.declared.First.the-variants as first
+use Rattle.faults.specs.Firsts.{lesser, placeUnless}
+use Rattle.faults.specs.laws.FirstsLaws.{lesser-last}
+use Rattle.message.specs.Segs.{segAt}
+use Rattle.message.specs.Rules.{isOf, worth, isEmpty, capitals, firstHolds, secondHolds, isBase, basesHold, cuxHolds}
+use Rattle.message.specs.forms.Run.{testStep}
+use Rattle.message.specs.forms.Counts.{someStep, most}
+use Rattle.message.specs.laws.ValueLaws.{empty-code}
+use Rattle.amounts.specs.declared.Order.{Order}
+use Rattle.amounts.specs.declared.Amounts.{Amounts}
+use Rattle.amounts.specs.forms.Steps.{addStep, heldInner, rule23, rule24, rule25, rule26, comesBy, heldStep, firstStep, sumsStep, endedBy, orderOf, noOrder, amountsOf, sumsStart, heldOf, sumsOf, sumsClose, ownAt, orderEnded, amountsClose, withForm, exchanged, paid, baseBy, basesBy}
+
+-- ---- values
+module _ (a : Amount) (l : List ℕ) (c : a ≡ amountOf l) where
+  pub formed-so : (n : ℕ) → a ≡ Of n → true ≡ isOf (amountOf l)
+  formed-so n q = ap isOf (sym q ∙ c)
+
+  pub formed-not : a ≡ Not → false ≡ isOf (amountOf l)
+  formed-not q = ap isOf (sym q ∙ c)
+
+  pub worth-of : (n : ℕ) → a ≡ Of n → n ≡ worth (amountOf l)
+  worth-of n q = ap worth (sym q ∙ c)
+
+  pub worth-not : a ≡ Not → 0 ≡ worth (amountOf l)
+  worth-not q = ap worth (sym q ∙ c)
+
+module _ (x : ℕ) (l : List ℕ) (e : x ≡ codeOf l) where
+  pub exchange-by : eqb x 79159 ≡ says l "57"
+  unfolding text codeFrom
+  exchange-by = rw (e, says-code l "57" refl)
+
+  pub qualifier-by : (r : Bool) → r ≡ eqb x 313 || eqb x 79159 → r ≡ says l "9" || says l "57"
+  unfolding text codeFrom
+  qualifier-by r q = q ∙ rw (e, says-code l "9" refl, says-code l "57" refl)
+
+  pub currency-by : (r : Bool) → r ≡ isCapitals x → r ≡ capitals l
+  currency-by r q = q ∙ rw e
+
+  pub own-by : (value : ℕ → ℕ → List ℕ) (money : List ℕ) → l ≡ value 1 0 → (t r : Bool) → t ≡ sameList (value 1 1) money → r ≡ eqb x 306 && t → r ≡ firstHolds money value
+  unfolding firstHolds text codeFrom
+  own-by value money f t r p q = q ∙ rw (p, e, f, says-code (value 1 0) "2" refl)
+
+pub own-named : (x : ℕ) (value : ℕ → ℕ → List ℕ) (money : List ℕ) (t r : Bool) → x ≡ codeOf (value 1 0) → t ≡ sameList (value 1 1) money → r ≡ eqb x 306 && t → r ≡ firstHolds money value
+own-named x value money t r e p q = own-by x (value 1 0) e value money refl t r p q
+
+pub other-named : (x y : ℕ) (value : ℕ → ℕ → List ℕ) (money : List ℕ) (c t n u r : Bool) → x ≡ codeOf (value 2 0) → y ≡ codeOf (value 2 1) → c ≡ isCapitals y → t ≡ sameList (value 2 1) money → n ≡ not t → u ≡ eqb x 307 && c → r ≡ u && n → r ≡ secondHolds money value
+unfolding secondHolds text codeFrom
+other-named x y value money c t n u r a b d e f g h = h ∙ rw (g, f, d, e, a, b, says-code (value 2 0) "3" refl)
+
+pub base-by : (x : ℕ) (u r : Bool) → u ≡ eqb x 305 || eqb x 20000816 → r ≡ u || eqb x 5120208944 → r ≡ baseBy x
+unfolding baseBy text codeFrom
+base-by x u r a b = b ∙ rw a
+
+pub bases-by : (x y z : ℕ) (n s f bx b o t r : Bool) → n ≡ eqb x 1 && eqb y 1 → b ≡ baseBy y → s ≡ eqb x 1 && b → bx ≡ baseBy x → f ≡ bx && eqb y 1 → o ≡ s || f → t ≡ not (eqb z 1) && o → r ≡ n || t → r ≡ basesBy x y z
+unfolding basesBy
+bases-by x y z n s f bx b o t r h1 h2 h3 h4 h5 h6 h7 h8 = h8 ∙ rw (h1, h7, h6, h3, h5, h2, h4)
+
+-- bases by their codes
+base-values : (l : List ℕ) → isBase l ≡ baseBy (codeOf l)
+unfolding isBase baseBy text codeFrom
+base-values l = rw (says-code l "1" refl, says-code l "100" refl, says-code l "1000" refl)
+
+bases-values : (a b c : List ℕ) → basesBy (codeOf a) (codeOf b) (codeOf c) ≡ basesHold a b c
+unfolding basesBy basesHold
+bases-values a b c = rw (base-values a, base-values b, empty-code a, empty-code b, empty-code c)
+
+pub cux-by : (value : ℕ → ℕ → List ℕ) (money : List ℕ) (x y z : ℕ) (f s b n r : Bool) → f ≡ firstHolds money value → s ≡ secondHolds money value → x ≡ codeOf (value 1 3) → y ≡ codeOf (value 2 3) → z ≡ codeOf (value 3 0) → b ≡ basesBy x y z → n ≡ f && s → r ≡ n && b → r ≡ cuxHolds money value
+cux-by value money x y z f s b n r h1 h2 h3 h4 h5 h6 h7 h8 = h8 ∙ rw (h7, h6, h1, h2, h3, h4, h5, bases-values (value 1 3) (value 2 3) (value 3 0))
+
+pub chain-and : (a b c d r : Bool) → a ≡ c → b ≡ d → r ≡ a && b → r ≡ c && d
+chain-and a b c d r p q h = h ∙ rw (p, q)
+
+pub chain-came : (a b c x r : Bool) → a ≡ c → b ≡ not a → r ≡ b || x → r ≡ not c || x
+chain-came a b c x r p q h = h ∙ rw (q, p)
+
+-- ---- parts of a step
+pub start-by : (o : Order) → o ≡ noOrder → amountsOf o first.None first.None first.None first.None first.None ≡ sumsStart
+start-by o e = rw e
+
+pub form-by : (st : Amounts) (t b : Bool) (n : ℕ) (f : First) → t ≡ b → f ≡ lesser (st .first22) (placeUnless t n) → amountsOf (st .order) f (st .first23) (st .first24) (st .first25) (st .first26) ≡ withForm st b n
+form-by st t b n f p q = rw (q, p)
+
+module _ (v : Service) (m : List ℕ) (st : Amounts) (o : Order) where
+  pub ended-idle : st .order .live ≡ false → amountsOf o (st .first22) (st .first23) (st .first24) (st .first25) (st .first26) ≡ orderEnded v m st o
+  ended-idle e = rw (e, lesser-last (st .first23), lesser-last (st .first24), lesser-last (st .first25), lesser-last (st .first26))
+
+  pub ended-live : st .order .live ≡ true → (a b c : Bool) (w : ℕ) (f23 f24 f25 f26 : First)
+      → a ≡ says (valueIn v (st .order .at) m 1 0) "9" || says (valueIn v (st .order .at) m 1 0) "57" → f23 ≡ lesser (st .first23) (placeUnless a (st .order .nth))
+      → b ≡ capitals (valueIn v (st .order .at) m 1 2) → f24 ≡ lesser (st .first24) (placeUnless b (st .order .nth))
+      → c ≡ not (says (valueIn v (st .order .at) m 1 0) "57") || st .order .exchanged → f25 ≡ lesser (st .first25) (placeUnless c (st .order .nth))
+      → w ≡ worth (amountOf (valueIn v (st .order .at) m 1 1)) → f26 ≡ lesser (st .first26) (placeUnless (eqb w (st .order .sum)) (st .order .nth))
+      → amountsOf o (st .first22) f23 f24 f25 f26 ≡ orderEnded v m st o
+  ended-live e a b c w f23 f24 f25 f26 h1 h2 h3 h4 h5 h6 h7 h8 = rw (e, h2, h4, h6, h8, h1, h3, h5, h7)
+
+pub close-by : (v : Service) (m : List ℕ) (st : Amounts) (o : Order) (r : Amounts) → o ≡ noOrder → r ≡ orderEnded v m st o → r ≡ amountsClose v m st
+close-by v m st o r e q = rw (q, e)
+
+pub close-sums : (v : Service) (m : List ℕ) (st r : Amounts) → r ≡ amountsClose v m st → sumsOf v m r ≡ sumsClose v m (sumsOf v m st)
+close-sums v m st r e = rw e
+
+pub moa-by : (v : Service) (m : List ℕ) (st u r : Amounts) (o : Order) (t : Bool) (n : ℕ) → u ≡ withForm st t n → r ≡ orderEnded v m u o → r ≡ orderEnded v m (withForm st t n) o
+moa-by v m st u r o t n p q = q ∙ rw p
+
+pub paid-by : (v : Service) (m : List ℕ) (st u r : Amounts) (t : Bool) (i n : ℕ) → u ≡ withForm st t n → r ≡ paid v m u i n → r ≡ paid v m (withForm st t n) i n
+paid-by v m st u r t i n p q = q ∙ rw p
+
+pub exchanged-by : (v : Service) (m : List ℕ) (st : Amounts) (i n : ℕ) (a b h : Bool) (f : First) → a ≡ not (st .order .live) → b ≡ says (valueIn v (st .order .at) m 1 0) "57" && cuxHolds (valueIn v (st .order .at) m 1 2) (valueIn v i m)
+    → h ≡ a || b → f ≡ lesser (st .first25) (placeUnless h n)
+    → amountsOf (orderOf (st .order .live) (st .order .nth) (st .order .at) true (st .order .sum)) (st .first22) (st .first23) (st .first24) f (st .first26) ≡ exchanged v m st i n
+exchanged-by v m st i n a b h f h1 h2 h3 h4 = rw (h4, h3, h1, h2)
+
+pub added-by : (v : Service) (m : List ℕ) (st : Amounts) (i n : ℕ) (a b c d e : Bool) (w s : ℕ) (f g : First) → a ≡ not (st .order .live) → w ≡ worth (amountOf (valueIn v i m 1 1)) → s ≡ min (st .order .sum + w) most
+    → b ≡ sameList (valueIn v i m 1 0) (valueIn v (st .order .at) m 1 0) → c ≡ a || b → f ≡ lesser (st .first23) (placeUnless c n)
+    → d ≡ sameList (valueIn v i m 1 2) (valueIn v (st .order .at) m 1 2) → e ≡ a || d → g ≡ lesser (st .first24) (placeUnless e n)
+    → amountsOf (orderOf (st .order .live) (st .order .nth) (st .order .at) (st .order .exchanged) s) (st .first22) f g (st .first25) (st .first26) ≡ paid v m st i n
+added-by v m st i n a b c d e w s f g h1 h2 h3 h4 h5 h6 h7 h8 h9 = rw (h6, h9, h5, h8, h4, h7, h3, h2, h1)
+
+-- ---- a step
+module _ (v : Service) (m : List ℕ) (st : Amounts) (nth row i : ℕ) (r : Amounts) where
+  pub step-lin : row ≡ 17 → (o : Order) → o ≡ noOrder → r ≡ orderEnded v m st o → sumsOf v m r ≡ sumsStep (segAt v m 0 23 0) (sumsOf v m st) (segAt v m nth row i)
+  unfolding sumsStep heldStep firstStep testStep
+  step-lin e o p q = rw (q, p, e)
+
+  pub at-lin : row ≡ 17 → (o : Order) → o ≡ noOrder → r ≡ orderEnded v m st o → r .order .at ≡ ownAt (st .order .at) row i
+  at-lin e o p q = rw (q, p, e)
+
+  pub step-moa : row ≡ 23 → r ≡ orderEnded v m (withForm st (isOf (amountOf (valueIn v i m 1 1))) nth) (orderOf true nth i false 0) → sumsOf v m r ≡ sumsStep (segAt v m 0 23 0) (sumsOf v m st) (segAt v m nth row i)
+  unfolding sumsStep heldStep firstStep testStep
+  step-moa e q = rw (q, e)
+
+  pub at-moa : row ≡ 23 → r ≡ orderEnded v m (withForm st (isOf (amountOf (valueIn v i m 1 1))) nth) (orderOf true nth i false 0) → r .order .at ≡ ownAt (st .order .at) row i
+  at-moa e q = rw (q, e)
+
+  pub step-cux : row ≡ 24 → r ≡ exchanged v m st i nth → sumsOf v m r ≡ sumsStep (segAt v m 0 23 0) (sumsOf v m st) (segAt v m nth row i)
+  unfolding sumsStep heldStep firstStep testStep heldInner addStep someStep
+  step-cux e q = rw (q, e, lesser-last (st .first23), lesser-last (st .first24), lesser-last (st .first26))
+
+  pub at-cux : row ≡ 24 → r ≡ exchanged v m st i nth → r .order .at ≡ ownAt (st .order .at) row i
+  at-cux e q = rw (q, e)
+
+  pub step-paid : row ≡ 51 → r ≡ paid v m (withForm st (isOf (amountOf (valueIn v i m 1 1))) nth) i nth → sumsOf v m r ≡ sumsStep (segAt v m 0 23 0) (sumsOf v m st) (segAt v m nth row i)
+  unfolding sumsStep heldStep firstStep testStep heldInner addStep someStep
+  step-paid e q = rw (q, e, lesser-last (st .first25), lesser-last (st .first26))
+
+  pub at-paid : row ≡ 51 → r ≡ paid v m (withForm st (isOf (amountOf (valueIn v i m 1 1))) nth) i nth → r .order .at ≡ ownAt (st .order .at) row i
+  at-paid e q = rw (q, e)
+
+pub at-other : (st : Amounts) (row i : ℕ) → (row ≡ 17 → ⊥) → (row ≡ 23 → ⊥) → st .order .at ≡ ownAt (st .order .at) row i
+at-other st row i a b = rw (ne-eqb row 17 a, ne-eqb row 23 b)
+
+pub step-other : (v : Service) (m : List ℕ) (st : Amounts) (nth row i : ℕ) → (row ≡ 17 → ⊥) → (row ≡ 23 → ⊥) → (row ≡ 24 → ⊥) → (row ≡ 51 → ⊥) → sumsOf v m st ≡ sumsStep (segAt v m 0 23 0) (sumsOf v m st) (segAt v m nth row i)
+unfolding sumsStep heldStep firstStep testStep heldInner addStep someStep
+step-other v m st nth row i a b c d = rw (ne-eqb row 17 a, ne-eqb row 23 b, ne-eqb row 24 c, ne-eqb row 51 d, lesser-last (st .first23), lesser-last (st .first24), lesser-last (st .first25), lesser-last (st .first26))
+
+-- ---- no second answer: where the MOA begins, and what it and the state say
+pub one-sums : (v : Service) (m : List ℕ) (x y : Amounts) → sumsOf v m x ≡ sumsOf v m y → x .order .at ≡ y .order .at → x ≡ y
+one-sums v m x y p q =
+    λ k. amountsOf (orderOf (p k .order .live) (p k .order .own .nth) (q k) (p k .order .cux) (p k .order .sum)) (p k .first22) (p k .first23) (p k .first24) (p k .first25) (p k .first26)

@@ -1,0 +1,8 @@
+pub mod Codes
+pub mod Columns
+pub mod Cursor
+pub mod Machine
+pub mod Next
+pub mod Placing
+pub mod Rows
+pub mod Sound

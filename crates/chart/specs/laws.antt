@@ -1,0 +1,3 @@
+pub mod CodesLaws
+pub mod CursorLaws
+pub mod TagsLaws

@@ -1,0 +1,13 @@
+pub mod AcceptingLaws
+pub mod AnsweringLaws
+pub mod CasesLaws
+pub mod DamageWhole
+pub mod DemandsMet
+pub mod MessageCasesLaws
+pub mod OneAnswerLaws
+pub mod PredecessorLaws
+pub mod RefusalsLaws
+pub mod RewriteKeeps
+pub mod RunLaws
+pub mod VerdictLaws
+pub mod WrongReadersLaws

@@ -1,0 +1,119 @@
+-- Every contract can be met. Assumes nothing.
+use Prim.Native.Nat.{ℕ, _+_}
+use native.Mathlib.Omega.{arith}
+use mathlib.Core.Path.{_≡_, refl, sym, subst}
+use mathlib.Core.Logic.{_⊎_, inl, inr}
+use mathlib.Core.List.{List, [], _∷_, _++_}
+use mathlib.Core.Bool.{Bool, true, false}
+use lib.ListN.{length}
+use lib.Dec.{leb, ltb}
+use Rattle.service.specs.declared.Service.{Service}
+use Rattle.service.specs.declared.Characters.{Characters}
+use Rattle.service.specs.declared.Characters.the-variants.{Fit, Unfit}
+use Rattle.service.specs.Service.{charactersOf}
+use Rattle.segments.specs.Classes.{if}
+use Rattle.interchange.specs.declared.Refusal.{Refusal}
+use Rattle.interchange.specs.Messages.{endsClosed}
+use Rattle.interchange.specs.Envelope.{refusal}
+use Rattle.faults.specs.declared.Fault.{Fault}
+use Rattle.faults.specs.declared.Fault.the-variants as fault
+use Rattle.lent.specs.Lists.{Lists, left}
+use Rattle.chart.specs.Chart.{Placement, FailsAt, Reading}
+use Rattle.chart.specs.Tags.{tagsOf}
+use Rattle.chart.specs.forms.Codes.{UNT}
+use Rattle.chart.specs.Paymul.{PAYMUL, chart}
+use Rattle.chart.proofs.Theorems.{placed-or-fails, closed-fails}
+use Rattle.chart.proofs.Whole.{fine}
+use Rattle.chart.proofs.Paymul.{paymul-sound}
+use Rattle.message.specs.Segs.{segsOf}
+use Rattle.message.specs.Rules.{paymul}
+use Rattle.message.specs.Faults.{told, tellAll, leastOf}
+use Rattle.report.specs.declared.Report.the-variants as report
+use Rattle.report.specs.Reported.{Bare, bareOf, toldUnless, rule10, headed, fits, early, In, Lowest, offsetOf, countsOf, filled, roomOf, Reported, accepted, refused}
+use Rattle.report.specs.laws.LeastLaws.{nowhere}
+use Rattle.report.specs.laws.EarlyLaws.{early-lowest, early-none}
+use Rattle.report.specs.laws.LateLaws.{late-none, late-lowest, misfit-lowest}
+use Rattle.report.specs.laws.ClosedLaws.{closes}
+use Rattle.walk.specs.declared.Walked.the-variants as walked
+use Rattle.walk.specs.Frame.{Step, message, nothing, stepWith, stepFrom}
+use Rattle.walk.specs.Frame as frame
+use Rattle.walk.specs.Walks.{between, Walks, walks-message, walks-nothing, walks-refused}
+use Rattle.twineherald.specs.Numbers.{refusedOf, reportOf, stepOf, Stepped, stepped, Checked, checked, unfit}
+use Rattle.demands.specs.laws.AcceptingLaws.{told-in, read}
+use Rattle.demands.specs.Answering.{Some, Answering}
+
+-- ---- a message
+module _ (v : Service) (m : List ℕ) (x : Lists) where
+  refuses : (n s : ℕ) → Lowest v m (roomOf x) n s → Some (Reported v m x)
+  refuses n s l = let f : Refusal = record { number = n; segment = s; offset = offsetOf v m n s } in (left (report.Refused f) x, refused f l refl refl)
+
+  -- where 11 is not told the message is closed
+  unclosed-told : endsClosed v m ≡ false → In (told 11 1) (tellAll (early (bareOf v m) (roomOf x)))
+  unfolding early
+  unclosed-told e =
+      let b : Bare = bareOf v m in
+      let front : List (ℕ × List ℕ) = (1, toldUnless (b .short) 0) ∷ (2, toldUnless (b .fit) 0) ∷ (10, rule10 1 (b .segments)) ∷ [] in
+      let back : List (ℕ × List ℕ) = (12, toldUnless (headed (b .segments)) 1) ∷ (13, toldUnless (leb (length (b .segments)) 9999) 10000) ∷ (14, toldUnless (fits (b .segments) (roomOf x)) 0) ∷ [] in
+      subst (λ (t : Bool). In (told 11 1) (tellAll (front ++ (11, toldUnless t 1) ∷ back))) (sym e) (told-in front back 11 1)
+
+  module _ (q : tellAll (early (bareOf v m) (roomOf x)) ≡ []) where
+    shut : endsClosed v m ≡ true
+    shut = go (endsClosed v m) refl
+      where
+        go : (b : Bool) → endsClosed v m ≡ b → endsClosed v m ≡ true
+        go true e = e
+        go false e = absurd (nowhere (told 11 1) _ q (unclosed-told e))
+
+    judged : (rows : List ℕ) → Reading chart (tagsOf v m) rows → (k : Fault) → leastOf (tellAll (paymul (segsOf v m rows))) ≡ k → Some (Reported v m x)
+    judged rows r fault.None e =
+        let c = countsOf (segsOf v m rows) in
+        (left (report.Accepted c) (filled v m rows x), accepted c rows r (late-none v m (roomOf x) rows r q e) refl refl)
+    judged rows r (fault.At n s) e = refuses n s (late-lowest v m (roomOf x) rows r q n s e)
+
+    placing : ((rows : List ℕ) × Placement chart (tagsOf v m) rows) ⊎ ((j : ℕ) × FailsAt chart (tagsOf v m) j) → Some (Reported v m x)
+    placing (inl p) = judged (p .0) (read v m (roomOf x) (p .0) (p .1)) (leastOf (tellAll (paymul (segsOf v m (p .0))))) refl
+    placing (inr p) =
+        let c = closes v m shut in
+        let w = closed-fails chart UNT (paymul-sound .closed) (tagsOf v m) (c .before) (c .last) (p .0) (p .1) in
+        refuses 16 (p .0 + 1) (misfit-lowest v m (roomOf x) (p .0) w q)
+
+  checks-by : (k : Fault) → leastOf (tellAll (early (bareOf v m) (roomOf x))) ≡ k → Some (Reported v m x)
+  checks-by fault.None e = placing (early-none v m (roomOf x) e) (placed-or-fails chart (fine PAYMUL paymul-sound) (tagsOf v m))
+  checks-by (fault.At n s) e = refuses n s (early-lowest v m (roomOf x) n s e)
+
+  checks : Some (Reported v m x)
+  checks = checks-by (leastOf (tellAll (early (bareOf v m) (roomOf x)))) refl
+
+-- ---- a step of the walk
+module _ (b : List ℕ) (at : ℕ) (x : Lists) where
+  -- a message is found by fit characters alone
+  found-by : (t : Bool) (c : Characters) (a e : ℕ) → if t (frame.refused (refusal 1)) (stepWith b at c) ≡ message a e → (v : Service) × (una : ℕ) × (c ≡ Fit v una)
+  found-by true c a e q = absurd (let z : _≡_ {A = ℕ} 0 1 = cc in omega arith)
+  found-by false (Fit v una) a e q = (v, una, refl)
+  found-by false Unfit a e q = absurd (let z : _≡_ {A = ℕ} 0 1 = cc in omega arith)
+
+  fits-found : (a e : ℕ) → stepFrom b at ≡ message a e → (v : Service) × (una : ℕ) × (charactersOf b ≡ Fit v una)
+  unfolding stepFrom
+  fits-found a e q = found-by (ltb 1048576 (length b)) (charactersOf b) a e q
+
+  steps-by : (k : Step) → stepFrom b at ≡ k → Some (Walks b at x)
+  steps-by (message a e) q =
+      let w = fits-found a e q in
+      let g = checks (w .0) (between b a e) x in
+      (left (walked.Message a e (g .0 .answer)) (g .0 .lists), walks-message (w .0) (w .1) a e (g .0 .answer) (w .2) (sym q) (g .1))
+  steps-by nothing q = (left walked.Nothing x, walks-nothing (sym q) refl)
+  steps-by (frame.refused f) q = (left (walked.Refused f) x, walks-refused f (sym q) refl)
+
+  walks : Some (Walks b at x)
+  walks = steps-by (stepFrom b at) refl
+
+-- ---- for C
+c-checks : (h m : List ℕ) (x : Lists) (c : Characters) → charactersOf h ≡ c → Some (Checked h m x)
+c-checks h m x (Fit v una) e = let g = checks v m x in (left (reportOf (g .0 .answer)) (g .0 .lists), checked v una (g .0 .answer) e (g .1) refl)
+c-checks h m x Unfit e = (left (refusedOf (refusal 2)) x, unfit e refl refl)
+
+c-walks : (b : List ℕ) (at : ℕ) (x : Lists) → Some (Stepped b at x)
+c-walks b at x = let g = walks b at x in (left (stepOf (g .0 .answer)) (g .0 .lists), stepped (g .0 .answer) (g .1) refl)
+
+pub answering : Answering
+answering = record { check = checks; walk = walks; c-check = λ h m x. c-checks h m x (charactersOf h) refl; c-walk = c-walks }

@@ -1,0 +1,182 @@
+-- Rows 9 to 11 hold. Assumes nothing.
+use Prim.Native.Nat.{ℕ}
+use mathlib.Core.Path.{_≡_, refl, sym, _∙_, subst}
+use mathlib.Core.List.{List, [], _∷_}
+use Rattle.service.specs.Service.{plainService, isMark, isAlphanumeric, serves, among, distinct, fitting}
+use Rattle.segments.specs.Classes.{classOf}
+use Rattle.segments.specs.SegmentList.{pieces, startsFrom}
+use Rattle.parts.specs.Parts.{lex, elements, valueAt, valueOf, isStrange, strangeFrom}
+use Rattle.values.specs.Numbers.{valueFrom, valueIn}
+use Rattle.values.specs.Text.{sameList, text}
+use Rattle.values.specs.forms.Values.{digits, numberOf, oneMore, units, fraction, codeFrom, isCapital, isCapitals}
+use Rattle.interchange.specs.Messages.{tagAt, closedAt}
+use Rattle.interchange.specs.Envelope.{isReference}
+use Rattle.faults.specs.declared.Fault.the-variants as fault
+use Rattle.chart.specs.Chart.{Reading}
+use Rattle.chart.specs.forms.Machine.{only, run, step, stepRows, free, freeRows, placed, choose, takes, owed, rowsBy}
+use Rattle.table.specs.Entries.{linesFrom, within}
+use Rattle.chart.specs.Table.{chartOf, rowOver, inside}
+use Rattle.chart.specs.forms.Codes.{UNH, BGM, DTM, LIN, RFF, MOA, FII, SEQ, CNT, UNT, CUX, NAD}
+use Rattle.chart.specs.forms.Columns.{parentOf, firstOf}
+use Rattle.chart.specs.forms.Next.{nextOf, chainFrom, findIn, nextRow as nextRowOn}
+use Rattle.chart.specs.Tags.{tagsFrom, tagsOf}
+use Rattle.chart.specs.Paymul.{PAYMUL, chart, table}
+use Rattle.chart.specs.forms.Rows.{rowsOf}
+use Rattle.chart.proofs.Plain.{placed-one}
+use Rattle.chart.proofs.Whole.{fine, reading-of}
+use Rattle.chart.proofs.Paymul.{paymul-sound}
+use Rattle.message.specs.Segs.{segsFrom, segsOf, those, until, stretches, each}
+use Rattle.message.specs.Rules.{some, failing, misnumbered, rule17, rule18, rule20, rule21, rule22, rule23, rule24, rule25, rule26, rule27, rule28, rule29, firstHolds, secondHolds, isBase, basesHold, sum, orderHolds, paymentHolds, detailsHold, paymul}
+use Rattle.message.specs.Faults.{rank, Told, tell, tellAll, least, leastOf}
+use Rattle.report.specs.Reported.{bareOf, rule10, headed, lines, fits, early}
+use Rattle.report.specs.laws.LateLaws.{late-none, late-lowest}
+use Rattle.demands.specs.MessageCases.{room, Holds, Gives, joined, exchange, unnamed, counted, Row9, Row10, Row11}
+
+-- ---- a message with these tags, whose rows are these
+module _ (m ts ns : List ℕ) (t : tagsOf plainService m ≡ ts) (p : run ts (only chart) 0 ≡ placed) (r : rowsOf ts ≡ ns) (e : tellAll (early (bareOf plainService m) room) ≡ []) where
+  reads : Reading chart (tagsOf plainService m) ns
+  reads =
+      let w = placed-one chart ts (fine PAYMUL paymul-sound) p in
+      subst (λ (l : List ℕ). Reading chart l ns) (sym t) (subst (λ (l : List ℕ). Reading chart ts l) r (reading-of PAYMUL paymul-sound ts (w .0) (w .1)))
+
+  holds : leastOf (tellAll (paymul (segsOf plainService m ns))) ≡ fault.None → Holds m
+  holds h = record { rows = ns; reading = reads; free = late-none plainService m room ns reads e h }
+
+  gives : (n s : ℕ) → leastOf (tellAll (paymul (segsOf plainService m ns))) ≡ fault.At n s → Gives m n s
+  gives n s h = late-lowest plainService m room ns reads e n s h
+
+-- ---- row 9
+abbrev tags9 : List ℕ
+tags9 = UNH ∷ BGM ∷ DTM ∷ LIN ∷ DTM ∷ RFF ∷ MOA ∷ CUX ∷ FII ∷ SEQ ∷ MOA ∷ RFF ∷ NAD ∷ CNT ∷ UNT ∷ []
+
+abbrev pub rows9 : List ℕ
+rows9 = 1 ∷ 2 ∷ 3 ∷ 17 ∷ 18 ∷ 19 ∷ 23 ∷ 24 ∷ 28 ∷ 50 ∷ 51 ∷ 53 ∷ 61 ∷ 108 ∷ 112 ∷ []
+
+run9 : run tags9 (only chart) 0 ≡ placed
+unfolding PAYMUL table linesFrom within text chartOf rowOver inside run step stepRows free freeRows choose takes owed
+run9 = refl
+
+place9 : rowsOf tags9 ≡ rows9
+unfolding PAYMUL table linesFrom within text rowsBy nextRowOn chainFrom findIn nextOf parentOf firstOf
+place9 = refl
+
+tags-eur : tagsOf plainService (exchange "MOA+57:100:EUR'") ≡ tags9
+unfolding joined text startsFrom pieces tagsFrom classOf lex valueOf codeFrom
+tags-eur = refl
+
+early-eur : tellAll (early (bareOf plainService (exchange "MOA+57:100:EUR'")) room) ≡ []
+unfolding joined text serves isAlphanumeric among distinct fitting pieces classOf lex valueOf elements valueAt sameList isStrange strangeFrom tagAt closedAt isReference rule10 headed lines fits early tell tellAll
+early-eur = refl
+
+late-eur : leastOf (tellAll (paymul (segsOf plainService (exchange "MOA+57:100:EUR'") rows9))) ≡ fault.None
+unfolding joined text startsFrom pieces classOf lex elements valueAt segsFrom codeFrom sameList digits numberOf oneMore isMark units fraction isCapital isCapitals those until stretches each some failing misnumbered rule17 rule18 rule20 rule21 rule22 rule23 rule24 rule25 rule26 rule27 rule28 rule29 firstHolds secondHolds isBase basesHold sum orderHolds paymentHolds detailsHold rank tell tellAll least leastOf
+late-eur = refl
+
+tags-usd : tagsOf plainService (exchange "MOA+57:100:USD'") ≡ tags9
+unfolding joined text startsFrom pieces tagsFrom classOf lex valueOf codeFrom
+tags-usd = refl
+
+early-usd : tellAll (early (bareOf plainService (exchange "MOA+57:100:USD'")) room) ≡ []
+unfolding joined text serves isAlphanumeric among distinct fitting pieces classOf lex valueOf elements valueAt sameList isStrange strangeFrom tagAt closedAt isReference rule10 headed lines fits early tell tellAll
+early-usd = refl
+
+late-usd : leastOf (tellAll (paymul (segsOf plainService (exchange "MOA+57:100:USD'") rows9))) ≡ fault.At 25 8
+unfolding joined text startsFrom pieces classOf lex elements valueAt segsFrom codeFrom sameList digits numberOf oneMore isMark units fraction isCapital isCapitals those until stretches each some failing misnumbered rule17 rule18 rule20 rule21 rule22 rule23 rule24 rule25 rule26 rule27 rule28 rule29 firstHolds secondHolds isBase basesHold sum orderHolds paymentHolds detailsHold rank tell tellAll least leastOf
+late-usd = refl
+
+pub nine : Row9
+nine =
+    (holds (exchange "MOA+57:100:EUR'") tags9 rows9 tags-eur run9 place9 early-eur late-eur, gives (exchange "MOA+57:100:USD'") tags9 rows9 tags-usd run9 place9 early-usd 25 8 late-usd)
+
+-- its reading
+pub read9 : Reading chart (tagsOf plainService (exchange "MOA+57:100:EUR'")) rows9
+read9 = reads (exchange "MOA+57:100:EUR'") tags9 rows9 tags-eur run9 place9 early-eur
+
+-- ---- row 10
+abbrev tags10 : List ℕ
+tags10 = UNH ∷ BGM ∷ DTM ∷ LIN ∷ DTM ∷ RFF ∷ MOA ∷ FII ∷ NAD ∷ SEQ ∷ MOA ∷ RFF ∷ NAD ∷ CNT ∷ UNT ∷ []
+
+abbrev rows10 : List ℕ
+rows10 = 1 ∷ 2 ∷ 3 ∷ 17 ∷ 18 ∷ 19 ∷ 23 ∷ 28 ∷ 32 ∷ 50 ∷ 51 ∷ 53 ∷ 61 ∷ 108 ∷ 112 ∷ []
+
+run10 : run tags10 (only chart) 0 ≡ placed
+unfolding PAYMUL table linesFrom within text chartOf rowOver inside run step stepRows free freeRows choose takes owed
+run10 = refl
+
+place10 : rowsOf tags10 ≡ rows10
+unfolding PAYMUL table linesFrom within text rowsBy nextRowOn chainFrom findIn nextOf parentOf firstOf
+place10 = refl
+
+tags-pl : tagsOf plainService (unnamed "NAD+PL+++A'") ≡ tags10
+unfolding joined text startsFrom pieces tagsFrom classOf lex valueOf codeFrom
+tags-pl = refl
+
+early-pl : tellAll (early (bareOf plainService (unnamed "NAD+PL+++A'")) room) ≡ []
+unfolding joined text serves isAlphanumeric among distinct fitting pieces classOf lex valueOf elements valueAt sameList isStrange strangeFrom tagAt closedAt isReference rule10 headed lines fits early tell tellAll
+early-pl = refl
+
+late-pl : leastOf (tellAll (paymul (segsOf plainService (unnamed "NAD+PL+++A'") rows10))) ≡ fault.None
+unfolding joined text startsFrom pieces classOf lex elements valueAt segsFrom codeFrom sameList digits numberOf oneMore isMark units fraction isCapital isCapitals those until stretches each some failing misnumbered rule17 rule18 rule20 rule21 rule22 rule23 rule24 rule25 rule26 rule27 rule28 rule29 firstHolds secondHolds isBase basesHold sum orderHolds paymentHolds detailsHold rank tell tellAll least leastOf
+late-pl = refl
+
+tags-oy : tagsOf plainService (unnamed "NAD+OY+++A'") ≡ tags10
+unfolding joined text startsFrom pieces tagsFrom classOf lex valueOf codeFrom
+tags-oy = refl
+
+early-oy : tellAll (early (bareOf plainService (unnamed "NAD+OY+++A'")) room) ≡ []
+unfolding joined text serves isAlphanumeric among distinct fitting pieces classOf lex valueOf elements valueAt sameList isStrange strangeFrom tagAt closedAt isReference rule10 headed lines fits early tell tellAll
+early-oy = refl
+
+late-oy : leastOf (tellAll (paymul (segsOf plainService (unnamed "NAD+OY+++A'") rows10))) ≡ fault.At 27 4
+unfolding joined text startsFrom pieces classOf lex elements valueAt segsFrom codeFrom sameList digits numberOf oneMore isMark units fraction isCapital isCapitals those until stretches each some failing misnumbered rule17 rule18 rule20 rule21 rule22 rule23 rule24 rule25 rule26 rule27 rule28 rule29 firstHolds secondHolds isBase basesHold sum orderHolds paymentHolds detailsHold rank tell tellAll least leastOf
+late-oy = refl
+
+pub ten : Row10
+ten =
+    (holds (unnamed "NAD+PL+++A'") tags10 rows10 tags-pl run10 place10 early-pl late-pl, gives (unnamed "NAD+OY+++A'") tags10 rows10 tags-oy run10 place10 early-oy 27 4 late-oy)
+
+-- ---- row 11
+abbrev tags11 : List ℕ
+tags11 = UNH ∷ BGM ∷ DTM ∷ LIN ∷ DTM ∷ RFF ∷ MOA ∷ FII ∷ SEQ ∷ MOA ∷ RFF ∷ NAD ∷ SEQ ∷ MOA ∷ RFF ∷ NAD ∷ LIN ∷ DTM ∷ RFF ∷ MOA ∷ FII ∷ SEQ ∷ MOA ∷ RFF ∷ NAD ∷ CNT ∷ UNT ∷ []
+
+abbrev pub rows11 : List ℕ
+rows11 = 1 ∷ 2 ∷ 3 ∷ 17 ∷ 18 ∷ 19 ∷ 23 ∷ 28 ∷ 50 ∷ 51 ∷ 53 ∷ 61 ∷ 50 ∷ 51 ∷ 53 ∷ 61 ∷ 17 ∷ 18 ∷ 19 ∷ 23 ∷ 28 ∷ 50 ∷ 51 ∷ 53 ∷ 61 ∷ 108 ∷ 112 ∷ []
+
+run11 : run tags11 (only chart) 0 ≡ placed
+unfolding PAYMUL table linesFrom within text chartOf rowOver inside run step stepRows free freeRows choose takes owed
+run11 = refl
+
+place11 : rowsOf tags11 ≡ rows11
+unfolding PAYMUL table linesFrom within text rowsBy nextRowOn chainFrom findIn nextOf parentOf firstOf
+place11 = refl
+
+tags-again : tagsOf plainService (counted "SEQ++1'") ≡ tags11
+unfolding joined text startsFrom pieces tagsFrom classOf lex valueOf codeFrom
+tags-again = refl
+
+early-again : tellAll (early (bareOf plainService (counted "SEQ++1'")) room) ≡ []
+unfolding joined text serves isAlphanumeric among distinct fitting pieces classOf lex valueOf elements valueAt sameList isStrange strangeFrom tagAt closedAt isReference rule10 headed lines fits early tell tellAll
+early-again = refl
+
+late-again : leastOf (tellAll (paymul (segsOf plainService (counted "SEQ++1'") rows11))) ≡ fault.None
+unfolding joined text startsFrom pieces classOf lex elements valueAt segsFrom codeFrom sameList digits numberOf oneMore isMark units fraction isCapital isCapitals those until stretches each some failing misnumbered rule17 rule18 rule20 rule21 rule22 rule23 rule24 rule25 rule26 rule27 rule28 rule29 firstHolds secondHolds isBase basesHold sum orderHolds paymentHolds detailsHold rank tell tellAll least leastOf
+late-again = refl
+
+tags-on : tagsOf plainService (counted "SEQ++3'") ≡ tags11
+unfolding joined text startsFrom pieces tagsFrom classOf lex valueOf codeFrom
+tags-on = refl
+
+early-on : tellAll (early (bareOf plainService (counted "SEQ++3'")) room) ≡ []
+unfolding joined text serves isAlphanumeric among distinct fitting pieces classOf lex valueOf elements valueAt sameList isStrange strangeFrom tagAt closedAt isReference rule10 headed lines fits early tell tellAll
+early-on = refl
+
+late-on : leastOf (tellAll (paymul (segsOf plainService (counted "SEQ++3'") rows11))) ≡ fault.At 21 22
+unfolding joined text startsFrom pieces classOf lex elements valueAt segsFrom codeFrom sameList digits numberOf oneMore isMark units fraction isCapital isCapitals those until stretches each some failing misnumbered rule17 rule18 rule20 rule21 rule22 rule23 rule24 rule25 rule26 rule27 rule28 rule29 firstHolds secondHolds isBase basesHold sum orderHolds paymentHolds detailsHold rank tell tellAll least leastOf
+late-on = refl
+
+pub eleven : Row11
+eleven =
+    (holds (counted "SEQ++1'") tags11 rows11 tags-again run11 place11 early-again late-again, gives (counted "SEQ++3'") tags11 rows11 tags-on run11 place11 early-on 21 22 late-on)
+
+pub read11 : Reading chart (tagsOf plainService (counted "SEQ++1'")) rows11
+read11 = reads (counted "SEQ++1'") tags11 rows11 tags-again run11 place11 early-again

@@ -1,0 +1,505 @@
+-- Demand 1 holds of every call. Assumes nothing.
+use Prim.Native.Nat.{ℕ, zero, suc, _+_, _≤_, _<_}
+use native.Mathlib.Omega.{arith}
+use mathlib.Core.Path.{_≡_, refl, sym, _∙_, ap, subst}
+use mathlib.Core.Logic.{_⊎_, inl, inr}
+use mathlib.Core.List.{List, [], _∷_, _++_, map}
+use mathlib.Core.Bool.{Bool, true, false, _||_}
+use lib.ListN.{length, drop, length-map}
+use lib.Seq.{drop-append-seam}
+use lib.Dec.{eqb, leb, ltb}
+use borrow.Author.Tests.{leb-false, ne-eqb}
+use Rattle.service.specs.declared.Service.{Service}
+use Rattle.service.specs.declared.Characters.{Characters}
+use Rattle.service.specs.declared.Characters.the-variants.{Fit, Unfit}
+use Rattle.service.specs.Service.{among, Fits, fitting, charactersOf}
+use Rattle.service.specs.laws.FitLaws.{fits-if}
+use Rattle.segments.specs.Classes.{if}
+use Rattle.segments.specs.SegmentList.{segmentsFrom, startsOf, startAt}
+use Rattle.segments.specs.laws.StartsLaws.{starts-past, starts-count, starts-here}
+use Rattle.values.specs.Text.{sameList}
+use Rattle.values.specs.Numbers.{valueIn}
+use Rattle.values.specs.forms.Values.{numberOf, isNumber}
+use Rattle.interchange.specs.declared.Refusal.{Refusal}
+use Rattle.interchange.specs.declared.Opening.{Opening}
+use Rattle.interchange.specs.declared.Opening.the-variants as opening
+use Rattle.interchange.specs.declared.Found.{Found}
+use Rattle.interchange.specs.declared.Found.the-variants as found
+use Rattle.interchange.specs.Messages.{endsClosed, foundFrom}
+use Rattle.interchange.specs.Envelope.{headed, ended, firstAt, refusal, openedBy, openingBy, openingNumber, openingOf, closingNumber, closedBy, closingBy, closingOf}
+use Rattle.lent.specs.Lists.{Lists}
+use Rattle.lent.specs.Over.{over}
+use Rattle.chart.specs.Chart.{Reading}
+use Rattle.chart.specs.Tags.{tagsOf}
+use Rattle.chart.specs.laws.TagsLaws.{same-count}
+use Rattle.chart.specs.Paymul.{PAYMUL, chart}
+use Rattle.chart.specs.forms.Rows.{rowsOf}
+use Rattle.chart.proofs.Whole.{placed-rows}
+use Rattle.chart.proofs.Paymul.{paymul-sound}
+use Rattle.message.specs.Segs.{Seg, segsOf}
+use Rattle.message.specs.Rules.{paymul, totalsOf}
+use Rattle.message.specs.Faults.{rank, told, tell, tellAll}
+use Rattle.report.specs.declared.Counts.{Counts}
+use Rattle.report.specs.declared.Report.{Report}
+use Rattle.report.specs.declared.Report.the-variants as report
+use Rattle.report.specs.Reported.{Room, rawOf, bareOf, toldUnless, rule10, fits, early, In, here, there, Applies, soon, misfit, late, Lowest, offsetOf, countsOf, filled, roomOf, Reported, accepted, refused}
+use Rattle.report.specs.Reported as reported
+use Rattle.report.specs.laws.ToldLaws.{Every, All, all-told}
+use Rattle.report.specs.laws.SmallLaws.{late-within}
+use Rattle.report.specs.laws.FillLaws.{rows-are, placed-length, totals-count}
+use Rattle.report.specs.laws.PieceLaws.{pieces-tags}
+use Rattle.report.specs.laws.RefusalLaws.{refusal-place}
+use Rattle.walk.specs.declared.Walked.{Walked}
+use Rattle.walk.specs.declared.Walked.the-variants as walked
+use Rattle.walk.specs.Frame.{Step, message, nothing, stepBy, stepAt, stepWith, stepFrom}
+use Rattle.walk.specs.Frame as frame
+use Rattle.walk.specs.Walks.{between, Walks, walks-message, walks-nothing, walks-refused}
+use Rattle.rewrite.specs.declared.Rewriting.{Rewriting}
+use Rattle.rewrite.specs.declared.Rewriting.the-variants as rewriting
+use Rattle.rewrite.specs.Plain.{rewritten, rewritingBy, rewritingOf, roomBy, roomAfter}
+use Rattle.rewrite.specs.Plain as plain
+use Rattle.twineherald.specs.declared.ReportNumbers.{ReportNumbers}
+use Rattle.twineherald.specs.declared.StepNumbers.{StepNumbers}
+use Rattle.twineherald.specs.declared.RewritingNumbers.{RewritingNumbers}
+use Rattle.twineherald.specs.Numbers.{reportOf, stepOf, rewritingNumbers, Stepped, stepped, Checked, checked, unfit, Rewritten}
+use Rattle.demands.specs.Refusals.{byOpening, byWalking, byRewriting, byClosing, bySegment, Nowhere, Tabled, nowhere, byte, head, last, segment, TabledIn, Beyond, refusalIn, countsIn, Refusals}
+
+-- ---- a refusal at 0, 0
+at-none : (n : ℕ) (numbers : List ℕ) → among n numbers ≡ true → Nowhere numbers (refusal n)
+at-none n numbers h = record { number = h; segment = refl; offset = refl }
+
+-- ---- opening
+abbrev Opened : Opening → Type 0
+Opened (opening.Opens v first) = Unit {0}
+Opened (opening.Refused f) = Nowhere byOpening f
+
+opened-by : (v : Service) (s : List ℕ) (first : ℕ) → Opened (openedBy v s first)
+unfolding openedBy among
+opened-by v s first = go (headed v s (segmentsFrom v s first)) (ended v s (segmentsFrom v s first))
+  where
+    go : (a b : Bool) → Opened (if a (if b (opening.Opens v first) (opening.Refused (refusal 4))) (opening.Refused (refusal 3)))
+    go true true = tt
+    go true false = at-none 4 byOpening refl
+    go false b = at-none 3 byOpening refl
+
+opened-with : (s : List ℕ) (c : Characters) → Opened (openingBy s c)
+unfolding among
+opened-with s (Fit v una) = opened-by v s (firstAt s una)
+opened-with s Unfit = at-none 2 byOpening refl
+
+opened : (s : List ℕ) → Opened (openingOf s)
+unfolding openingOf among
+opened s = go (ltb 1048576 (length s))
+  where
+    go : (a : Bool) → Opened (if a (opening.Refused (refusal 1)) (openingBy s (charactersOf s)))
+    go true = at-none 1 byOpening refl
+    go false = opened-with s (charactersOf s)
+
+opens : (s : List ℕ) (f : Refusal) → openingOf s ≡ opening.Refused f → Nowhere byOpening f
+opens s f e = subst Opened e (opened s)
+
+or-right : (a b : Bool) → b ≡ true → (a || b) ≡ true
+or-right true b e = refl
+or-right false b e = e
+
+-- one of these, or 0
+or-none : (n : ℕ) (numbers : List ℕ) → among n numbers ≡ true → among n (0 ∷ numbers) ≡ true
+unfolding among
+or-none n numbers h = or-right (eqb n 0) (among n numbers) h
+
+number-by : (o : Opening) → Opened o → among (openingNumber o) (0 ∷ byOpening) ≡ true
+unfolding among
+number-by (opening.Opens v first) h = refl
+number-by (opening.Refused f) h = or-none (f .number) byOpening (h .number)
+
+-- ---- closing
+or-more : (a b c : Bool) → (b ≡ true → c ≡ true) → (a || b) ≡ true → (a || c) ≡ true
+or-more true b c h e = refl
+or-more false b c h e = h e
+
+among-more : (n : ℕ) (k l : List ℕ) → among n k ≡ true → among n (k ++ l) ≡ true
+unfolding among
+among-more n [] l h = absurd (let z : _≡_ {A = ℕ} 0 1 = cc in omega arith)
+among-more n (x ∷ k) l h = or-more (eqb n x) (among n k) (among n (k ++ l)) (among-more n k l) h
+
+closing-number : (v : Service) (s : List ℕ) (first end messages strays : ℕ) → among (closingNumber v s first end messages strays) (0 ∷ byClosing) ≡ true
+unfolding closingNumber among
+closing-number v s first end messages strays = go (isNumber (numberOf (valueIn v end s 1 0)) messages) (sameList (valueIn v first s 5 0) (valueIn v end s 2 0)) (eqb strays 0)
+  where
+    go : (a b c : Bool) → among (if a (if b (if c 0 7) 6) 5) (0 ∷ byClosing) ≡ true
+    go true true true = refl
+    go true true false = refl
+    go true false c = refl
+    go false b c = refl
+
+closed-by : (s : List ℕ) (o : Opening) → Opened o → among (closingBy s o .number) (0 ∷ byClosing) ≡ true
+unfolding closedBy
+closed-by s (opening.Opens v first) h = closing-number v s first _ _ _
+closed-by s (opening.Refused f) h = or-none (f .number) byClosing (among-more (f .number) byOpening (5 ∷ 6 ∷ 7 ∷ []) (h .number))
+
+closes : (s : List ℕ) → among (closingOf s .number) (0 ∷ byClosing) ≡ true
+unfolding closingOf
+closes s = closed-by s (openingOf s) (opened s)
+
+-- ---- a message: number and segment of all that applies
+data Row (k n s : ℕ) : Type 0 where
+  row-none : among n (1 ∷ 2 ∷ 14 ∷ []) ≡ true → s ≡ 0 → Row k n s
+  row-byte : n ≡ 10 → 1 ≤ s → s ≤ k → Row k n s
+  row-head : among n (11 ∷ 12 ∷ []) ≡ true → s ≡ 1 → Row k n s
+  row-last : n ≡ 13 → s ≡ 10000 → 10000 ≤ k → Row k n s
+  row-segment : among n bySegment ≡ true → 1 ≤ s → s ≤ k → Row k n s
+
+pub every : (P : ℕ → Type 0) → ((s : ℕ) → P s) → (l : List ℕ) → Every P l
+every P h [] = tt
+every P h (x ∷ l) = (h x, every P h l)
+
+unless-is : (P : ℕ → Type 0) (b : Bool) (s : ℕ) → (b ≡ false → P s) → Every P (toldUnless b s)
+unless-is P true s h = tt
+unless-is P false s h = (h refl, tt)
+
+-- all numbers of the rules on a placed message are of the table
+abbrev Known : List (ℕ × List ℕ) → Type 0
+Known [] = Unit {0}
+Known (r ∷ rs) = (among (r .0) bySegment ≡ true) × Known rs
+
+known-all : (rs : List (ℕ × List ℕ)) → Known rs → All (λ n s. among n bySegment ≡ true) rs
+known-all [] h = tt
+known-all (r ∷ rs) h = (every (λ s. among (r .0) bySegment ≡ true) (λ s. h .0) (r .1), known-all rs (h .1))
+
+late-known : (n s : ℕ) (m : List Seg) → In (told n s) (tellAll (paymul m)) → among n bySegment ≡ true
+unfolding among
+late-known n s m i =
+    all-told (λ n s. among n bySegment ≡ true) (paymul m) (told n s)
+    (known-all (paymul m) (refl, (refl, (refl, (refl, (refl, (refl, (refl, (refl, (refl, (refl, (refl, (refl, tt))))))))))))) i
+
+module _ (v : Service) (m : List ℕ) where
+  abbrev many : ℕ
+  many = length (segmentsFrom v m 0)
+
+  tens : (n : ℕ) (l : List reported.Raw) → 1 ≤ n → n + length l ≤ suc many → Every (Row many 10) (rule10 n l)
+  unfolding rule10
+  tens n [] h g = tt
+  tens n (r ∷ l) h g = go (r .usual) (tens (suc n) l (omega arith) (omega arith))
+    where
+      go : (b : Bool) → Every (Row many 10) (rule10 (suc n) l) → Every (Row many 10) (toldUnless b n ++ rule10 (suc n) l)
+      go true w = w
+      go false w = (row-byte refl h (omega arith), w)
+
+  early-rows : (x : Room) → All (Row many) (early (bareOf v m) x)
+  unfolding early among
+  early-rows x =
+      let z = length-map (segmentsFrom v m 0) (rawOf v m) in (
+        unless-is (Row many 1) (leb (length m) 1048576) 0 (λ _. row-none refl refl),
+        (
+          unless-is (Row many 2) (fitting v) 0 (λ _. row-none refl refl),
+          (
+            tens 1 (map (rawOf v m) (segmentsFrom v m 0)) (omega arith) (omega arith),
+            (
+              unless-is (Row many 11) (endsClosed v m) 1 (λ _. row-head refl refl),
+              (
+                unless-is (Row many 12) (reported.headed (map (rawOf v m) (segmentsFrom v m 0))) 1 (λ _. row-head refl refl),
+                (
+                  unless-is (Row many 13) (leb (length (map (rawOf v m) (segmentsFrom v m 0))) 9999) 10000
+                      (λ e. let g = leb-false (length (map (rawOf v m) (segmentsFrom v m 0))) 9999 e in row-last refl refl (omega arith)),
+                  (
+                    unless-is (Row many 14) (fits (map (rawOf v m) (segmentsFrom v m 0)) x) 0 (λ _. row-none refl refl),
+                    tt,
+                  ),
+                ),
+              ),
+            ),
+          ),
+        ),
+      )
+
+  rows-many : (rows : List ℕ) → Reading chart (tagsOf v m) rows → length rows ≡ many
+  rows-many rows r = ap length (placed-rows PAYMUL paymul-sound (tagsOf v m) rows (r .placement)) ∙ rows-are v m ∙ sym (pieces-tags v m)
+
+  row-of : (x : Room) (n s : ℕ) → Applies v m x n s → Row many n s
+  unfolding among
+  row-of x n s (soon i) = all-told (Row many) (early (bareOf v m) x) (told n s) (early-rows x) i
+  row-of x n s (misfit j g p q) = let w = g .within in let z = pieces-tags v m in row-segment (ap (λ (k : ℕ). among k bySegment) p) (omega arith) (omega arith)
+  row-of x n s (late rows r i) =
+      let w = late-within v m rows n s i in
+      let a = w .0 in
+      let b = w .1 in
+      let z = rows-many rows r in
+      row-segment (late-known n s (segsOf v m rows) i) a (omega arith)
+
+  -- a message with a segment has bytes
+  has-bytes : 1 ≤ many → 0 < length m
+  has-bytes h = go (length m) refl
+    where
+      go : (n : ℕ) → length m ≡ n → 0 < length m
+      go zero e = absurd (let z = starts-count v m 0 in let y = ap length (starts-past v m 0 (omega arith)) in omega arith)
+      go (suc n) e = omega arith
+
+  first-start : startAt v m 0 ≡ 0
+  first-start = starts-here v m 0 (omega arith)
+
+  -- under 10 the service characters fit: else it were 2
+  two-told : (rest : List (ℕ × List ℕ)) (a b : Bool) → b ≡ false → In (told 2 0) (tellAll ((1, toldUnless a 0) ∷ (2, toldUnless b 0) ∷ rest))
+  unfolding tell tellAll
+  two-told rest a true e = absurd (let z : _≡_ {A = ℕ} 0 1 = cc in omega arith)
+  two-told rest true false e = here
+  two-told rest false false e = there here
+
+  two-applies : (x : Room) → fitting v ≡ false → Applies v m x 2 0
+  unfolding early
+  two-applies x e = soon (two-told _ (leb (length m) 1048576) (fitting v) e)
+
+  ten-fits : (x : Room) (n s : ℕ) → Lowest v m x n s → n ≡ 10 → Fits v
+  unfolding rank
+  ten-fits x n s l e = go (fitting v) refl
+    where
+      by : (rank n < rank 2) ⊎ ((n ≡ 2) × (s ≤ 0)) → ⊥
+      by (inl h) = omega arith
+      by (inr h) = let i = h .0 in omega arith
+
+      go : (b : Bool) → fitting v ≡ b → Fits v
+      go true q = fits-if v q
+      go false q = absurd (by (l .least 2 0 (two-applies x q)))
+
+  offset-none : (n : ℕ) → offsetOf v m n 0 ≡ 0
+  unfolding offsetOf
+  offset-none n = refl
+
+  offset-start : (n k : ℕ) → (n ≡ 10 → ⊥) → offsetOf v m n (suc k) ≡ startAt v m k
+  unfolding offsetOf
+  offset-start n k h = rw (ne-eqb n 10 h)
+
+  not-ten : (numbers : List ℕ) → among 10 numbers ≡ false → (n : ℕ) → among n numbers ≡ true → n ≡ 10 → ⊥
+  not-ten numbers h n e q = let z : true ≡ false = sym e ∙ ap (λ (k : ℕ). among k numbers) q ∙ h in let y : _≡_ {A = ℕ} 0 1 = cc in omega arith
+
+  pred : (s : ℕ) → 1 ≤ s → (k : ℕ) × (s ≡ suc k)
+  pred zero h = absurd (omega arith)
+  pred (suc k) h = (k, refl)
+
+  module _ (x x′ : Lists) (f : Refusal) (w : Reported v m x x′ (report.Refused f)) (l : Lowest v m (roomOf x) (f .number) (f .segment)) (o : f .offset ≡ offsetOf v m (f .number) (f .segment)) where
+    starts-at : (numbers : List ℕ) → among 10 numbers ≡ false → among (f .number) numbers ≡ true → (k : ℕ) → f .segment ≡ suc k → f .offset ≡ startAt v m k
+    starts-at numbers h e k q = o ∙ ap (offsetOf v m (f .number)) q ∙ offset-start (f .number) k (not-ten numbers h (f .number) e)
+
+    tabled : Row many (f .number) (f .segment) → Tabled v m f
+    unfolding among
+    tabled (row-none e q) = nowhere (record { number = e; segment = q; offset = o ∙ ap (offsetOf v m (f .number)) q ∙ offset-none (f .number) })
+    tabled (row-byte e a b) =
+        let k = pred (f .segment) a in
+        let n = k .0 in
+        let q : f .segment ≡ suc n = k .1 in
+        let u = refusal-place v m (has-bytes (omega arith)) x x′ f w .1 n q in
+        let t = ten-fits (roomOf x) (f .number) (f .segment) l e in
+        byte n e (record { segment = q; some = u .some }) (u .from t e) (u .to t e)
+    tabled (row-head e q) = head e q (starts-at (11 ∷ 12 ∷ []) refl e 0 q ∙ first-start)
+    tabled (row-last e q h) =
+        last e (record { segment = q; some = omega arith }) (starts-at (13 ∷ []) refl (ap (λ (k : ℕ). among k (13 ∷ [])) e) 9999 q)
+    tabled (row-segment e a b) =
+        let k = pred (f .segment) a in
+        let n = k .0 in
+        let q : f .segment ≡ suc n = k .1 in
+        segment n e (record { segment = q; some = omega arith }) (starts-at bySegment refl e n q)
+
+  module _ (x x′ : Lists) where
+    check-by : (y : Report) → Reported v m x x′ y → (f : Refusal) → y ≡ report.Refused f → Tabled v m f × (x′ ≡ x)
+    check-by y (accepted c rows a free e p) f u = absurd (let z : _≡_ {A = ℕ} 0 1 = cc in omega arith)
+    check-by y (refused g l o p) f u =
+        let z : g ≡ f = cc in
+        (subst (Tabled v m) z (tabled x x′ g (refused g l o p) l o (row-of (roomOf x) (g .number) (g .segment) (l .applies))), p)
+
+    pub checks : (f : Refusal) → Reported v m x x′ (report.Refused f) → Tabled v m f × (x′ ≡ x)
+    checks f w = check-by (report.Refused f) w f refl
+
+    -- acceptance
+    drop-over : (n : ℕ) (new old : List ℕ) → length new ≡ n → drop n (over new old) ≡ drop n old
+    unfolding over
+    drop-over n new old e = subst (λ (k : ℕ). drop k (new ++ drop (length new) old) ≡ drop k old) e (drop-append-seam new (drop (length new) old))
+
+    beyond-of : (rows : List ℕ) → Reading chart (tagsOf v m) rows → Beyond (countsOf (segsOf v m rows)) x (filled v m rows x)
+    beyond-of rows r =
+        let q : rows ≡ rowsOf (tagsOf v m) = placed-rows PAYMUL paymul-sound (tagsOf v m) rows (r .placement) in
+        let p : Reading chart (tagsOf v m) (rowsOf (tagsOf v m)) = subst (Reading chart (tagsOf v m)) q r in
+        let n = placed-length v m in
+        subst (λ (l : List ℕ). Beyond (countsOf (segsOf v m l)) x (filled v m l x)) (sym q) (record {
+          rows = drop-over _ (rowsOf (tagsOf v m)) (x .rows) (rows-are v m ∙ sym n);
+          starts = drop-over _ (startsOf v m) (x .starts) (same-count v m 0 ∙ sym n);
+          totals = drop-over _ (totalsOf (segsOf v m (rowsOf (tagsOf v m)))) (x .totals) (totals-count v m (p .placement));
+        })
+
+    beyond-by : (y : Report) → Reported v m x x′ y → (c : Counts) → y ≡ report.Accepted c → Beyond c x x′
+    beyond-by y (accepted d rows a free e p) c u =
+        let z : countsOf (segsOf v m rows) ≡ c = sym e ∙ (let i : d ≡ c = cc in i) in
+        subst (λ (k : Counts). Beyond k x x′) z (subst (λ (l : Lists). Beyond (countsOf (segsOf v m rows)) x l) (sym p) (beyond-of rows a))
+    beyond-by y (refused g l o p) c u = absurd (let z : _≡_ {A = ℕ} 0 1 = cc in omega arith)
+
+    pub beyond : (c : Counts) → Reported v m x x′ (report.Accepted c) → Beyond c x x′
+    beyond c w = beyond-by (report.Accepted c) w c refl
+
+-- ---- the walk
+abbrev Went : Step → Type 0
+Went (message a e) = Unit {0}
+Went nothing = Unit {0}
+Went (frame.refused f) = Nowhere byWalking f
+
+went-by : (k : Found) → Went (stepBy k)
+unfolding among
+went-by (found.Message a e) = tt
+went-by found.Nothing = tt
+went-by found.Unfinished = at-none 4 byWalking refl
+
+went-at : (v : Service) (s : List ℕ) (at : ℕ) → Went (stepAt v s at)
+unfolding stepAt among
+went-at v s at = go (ltb (length s) at)
+  where
+    go : (b : Bool) → Went (if b (frame.refused (refusal 8)) (stepBy (foundFrom v s at)))
+    go true = at-none 8 byWalking refl
+    go false = went-by (foundFrom v s at)
+
+went-with : (s : List ℕ) (at : ℕ) (c : Characters) → Went (stepWith s at c)
+unfolding among
+went-with s at (Fit v una) = went-at v s at
+went-with s at Unfit = at-none 2 byWalking refl
+
+went : (s : List ℕ) (at : ℕ) → Went (stepFrom s at)
+unfolding stepFrom among
+went s at = go (ltb 1048576 (length s))
+  where
+    go : (b : Bool) → Went (if b (frame.refused (refusal 1)) (stepWith s at (charactersOf s)))
+    go true = at-none 1 byWalking refl
+    go false = went-with s at (charactersOf s)
+
+-- whatever the walk answers
+abbrev Told : List ℕ → Lists → Lists → Walked → Type 0
+Told b x x′ (walked.Message a e (report.Accepted c)) = Beyond c x x′
+Told b x x′ (walked.Message a e (report.Refused f)) = TabledIn b (between b a e) f × (x′ ≡ x)
+Told b x x′ walked.Nothing = x′ ≡ x
+Told b x x′ (walked.Refused f) = Nowhere byWalking f × (x′ ≡ x)
+
+message-told : (b : List ℕ) (x x′ : Lists) (v : Service) (una : ℕ) → charactersOf b ≡ Fit v una → (a e : ℕ) (y : Report) → Reported v (between b a e) x x′ y → Told b x x′ (walked.Message a e y)
+message-told b x x′ v una c a e (report.Accepted k) w = beyond v (between b a e) x x′ k w
+message-told b x x′ v una c a e (report.Refused f) w =
+    let z = checks v (between b a e) x x′ f w in
+    (record { characters = v; una = una; fit = c; tabled = z .0 }, z .1)
+
+walk-told : (b : List ℕ) (at : ℕ) (x x′ : Lists) (y : Walked) → Walks b at x x′ y → Told b x x′ y
+walk-told b at x x′ y (walks-message v una a e k n p q) = message-told b x x′ v una n a e k q
+walk-told b at x x′ y (walks-nothing p i) = i
+walk-told b at x x′ y (walks-refused g p i) = (subst Went (sym p) (went b at), i)
+
+-- ---- rewriting
+abbrev Wrote : List ℕ → List ℕ → Rewriting → Type 0
+Wrote new old (rewriting.Written n) = n ≡ length new
+Wrote new old (rewriting.Refused f) = Nowhere byRewriting f
+
+wrote-by : (new old : List ℕ) (o : Opening) → Opened o → Wrote new old (rewritingBy o (length new) (length old))
+unfolding among
+wrote-by new old (opening.Opens v first) h = go (plain.fits (length new) (length old))
+  where
+    go : (b : Bool) → Wrote new old (if b (rewriting.Written (length new)) (rewriting.Refused (refusal 9)))
+    go true = refl
+    go false = at-none 9 byRewriting refl
+wrote-by new old (opening.Refused f) h = record { number = among-more (f .number) byOpening (9 ∷ []) (h .number); segment = h .segment; offset = h .offset }
+
+wrote : (s old : List ℕ) → Wrote (rewritten s) old (rewritingOf s (length old))
+unfolding rewritingOf
+wrote s old = wrote-by (rewritten s) old (openingOf s) (opened s)
+
+rewrites : (s o : List ℕ) (f : Refusal) → rewritingOf s (length o) ≡ rewriting.Refused f → Nowhere byRewriting f × (roomAfter s o ≡ o)
+unfolding roomAfter
+rewrites s o f e = (subst (Wrote (rewritten s) o) e (wrote s o), ap (λ (k : Rewriting). roomBy k (rewritten s) o) e)
+
+rewrites-beyond : (s o : List ℕ) (n : ℕ) → rewritingOf s (length o) ≡ rewriting.Written n → drop n (roomAfter s o) ≡ drop n o
+unfolding roomAfter over
+rewrites-beyond s o n e =
+    let q : n ≡ length (rewritten s) = subst (Wrote (rewritten s) o) e (wrote s o) in
+    ap (λ (k : Rewriting). drop n (roomBy k (rewritten s) o)) e
+    ∙ subst (λ (k : ℕ). drop k (rewritten s ++ drop (length (rewritten s)) o) ≡ drop k o) (sym q) (drop-append-seam (rewritten s) (drop (length (rewritten s)) o))
+
+-- ---- for C
+abbrev Answered : (Refusal → Type 0) → Lists → Lists → ReportNumbers → Type 0
+Answered P x x′ y = (y .number ≡ 0 → ⊥) → P (refusalIn y) × (x′ ≡ x)
+
+c-report : (v : Service) (m : List ℕ) (x x′ : Lists) (w : Report) → Reported v m x x′ w → Answered (Tabled v m) x x′ (reportOf w)
+c-report v m x x′ (report.Accepted c) h g = absurd (g refl)
+c-report v m x x′ (report.Refused f) h g = checks v m x x′ f h
+
+abbrev OnCheck : List ℕ → List ℕ → Refusal → Type 0
+OnCheck h m f = Nowhere (2 ∷ []) f ⊎ TabledIn h m f
+
+c-checks : (h m : List ℕ) (x x′ : Lists) (y : ReportNumbers) → Checked h m x x′ y → Answered (OnCheck h m) x x′ y
+unfolding among
+c-checks h m x x′ y (checked v una w p l e) =
+    subst (Answered (OnCheck h m) x x′) (sym e) (λ g. let z = c-report v m x x′ w l g in (inr (record { characters = v; una = una; fit = p; tabled = z .0 }), z .1))
+c-checks h m x x′ y (unfit q e p) = subst (Answered (OnCheck h m) x x′) (sym e) (λ g. (inl (at-none 2 (2 ∷ []) refl), p))
+
+abbrev OnWalk : List ℕ → StepNumbers → Type 0
+OnWalk b y = Nowhere byWalking (refusalIn (y .report)) ⊎ TabledIn b (between b (y .start) (y .end)) (refusalIn (y .report))
+
+c-told : (b : List ℕ) (x x′ : Lists) (w : Walked) → Told b x x′ w → (stepOf w .report .number ≡ 0 → ⊥) → OnWalk b (stepOf w) × (x′ ≡ x)
+c-told b x x′ (walked.Message a e (report.Accepted c)) h g = absurd (g refl)
+c-told b x x′ (walked.Message a e (report.Refused f)) h g = (inr (h .0), h .1)
+c-told b x x′ walked.Nothing h g = absurd (g refl)
+c-told b x x′ (walked.Refused f) h g = (inl (h .0), h .1)
+
+c-walks : (b : List ℕ) (at : ℕ) (x x′ : Lists) (y : StepNumbers) → Stepped b at x x′ y → (y .report .number ≡ 0 → ⊥) → OnWalk b y × (x′ ≡ x)
+c-walks b at x x′ y (stepped w l e) = subst (λ (k : StepNumbers). (k .report .number ≡ 0 → ⊥) → OnWalk b k × (x′ ≡ x)) (sym e) (c-told b x x′ w (walk-told b at x x′ w l))
+
+c-room : (s o : List ℕ) (w : Rewriting) → rewritingOf s (length o) ≡ w → (rewritingNumbers w .number ≡ 0 → ⊥) → (among (rewritingNumbers w .number) byRewriting ≡ true) × (roomAfter s o ≡ o)
+c-room s o (rewriting.Written n) e g = absurd (g refl)
+c-room s o (rewriting.Refused f) e g = let z = rewrites s o f e in (z .0 .number, z .1)
+
+c-rewrites : (b o o′ : List ℕ) (y : RewritingNumbers) → Rewritten b y o o′ → (y .number ≡ 0 → ⊥) → (among (y .number) byRewriting ≡ true) × (o′ ≡ o)
+c-rewrites b o o′ y w g =
+    let p = ap (λ (k : RewritingNumbers). k .number) (w .numbers) in
+    let z = c-room b o (rewritingOf b (length o)) refl (λ q. g (p ∙ q)) in
+    (ap (λ (n : ℕ). among n byRewriting) p ∙ z .0, w .room ∙ z .1)
+
+-- past the counts
+same-beyond : (c : Counts) (x x′ : Lists) → x′ ≡ x → Beyond c x x′
+same-beyond c x x′ e = subst (Beyond c x) (sym e) (record { rows = refl; starts = refl; totals = refl })
+
+report-beyond : (v : Service) (m : List ℕ) (x x′ : Lists) (w : Report) → Reported v m x x′ w → Beyond (countsIn (reportOf w)) x x′
+report-beyond v m x x′ (report.Accepted c) h = beyond v m x x′ c h
+report-beyond v m x x′ (report.Refused f) h = same-beyond _ x x′ (checks v m x x′ f h .1)
+
+check-on : (h m : List ℕ) (x x′ : Lists) (y : ReportNumbers) → Checked h m x x′ y → Beyond (countsIn y) x x′
+check-on h m x x′ y (checked v una w p l e) = subst (λ (k : ReportNumbers). Beyond (countsIn k) x x′) (sym e) (report-beyond v m x x′ w l)
+check-on h m x x′ y (unfit q e p) = same-beyond (countsIn y) x x′ p
+
+told-beyond : (b : List ℕ) (x x′ : Lists) (w : Walked) → Told b x x′ w → Beyond (countsIn (stepOf w .report)) x x′
+told-beyond b x x′ (walked.Message a e (report.Accepted c)) h = h
+told-beyond b x x′ (walked.Message a e (report.Refused f)) h = same-beyond _ x x′ (h .1)
+told-beyond b x x′ walked.Nothing h = same-beyond _ x x′ h
+told-beyond b x x′ (walked.Refused f) h = same-beyond _ x x′ (h .1)
+
+walk-on : (b : List ℕ) (at : ℕ) (x x′ : Lists) (y : StepNumbers) → Stepped b at x x′ y → Beyond (countsIn (y .report)) x x′
+walk-on b at x x′ y (stepped w l e) = subst (λ (k : StepNumbers). Beyond (countsIn (k .report)) x x′) (sym e) (told-beyond b x x′ w (walk-told b at x x′ w l))
+
+room-on : (s o : List ℕ) (w : Rewriting) → rewritingOf s (length o) ≡ w → drop (rewritingNumbers w .length) (roomAfter s o) ≡ drop (rewritingNumbers w .length) o
+room-on s o (rewriting.Written n) e = rewrites-beyond s o n e
+room-on s o (rewriting.Refused f) e = ap (drop 0) (rewrites s o f e .1)
+
+rewrite-on : (b o o′ : List ℕ) (y : RewritingNumbers) → Rewritten b y o o′ → drop (y .length) o′ ≡ drop (y .length) o
+rewrite-on b o o′ y w =
+    subst (λ (k : RewritingNumbers). drop (k .length) o′ ≡ drop (k .length) o) (sym (w .numbers))
+    (ap (drop (rewritingNumbers (rewritingOf b (length o)) .length)) (w .room) ∙ room-on b o (rewritingOf b (length o)) refl)
+
+pub refusals : Refusals
+refusals = record {
+  opening = opens;
+  closing = closes;
+  checking = checks;
+  check-beyond = beyond;
+  walking = λ b at x x′ f w. walk-told b at x x′ (walked.Refused f) w;
+  walk-none = λ b at x x′ w. walk-told b at x x′ walked.Nothing w;
+  walk-message = λ b at a e x x′ f w. walk-told b at x x′ (walked.Message a e (report.Refused f)) w;
+  walk-beyond = λ b at a e x x′ c w. walk-told b at x x′ (walked.Message a e (report.Accepted c)) w;
+  rewriting = rewrites;
+  rewrite-beyond = rewrites-beyond;
+  c-open = λ b. number-by (openingOf b) (opened b);
+  c-close = closes;
+  c-check = c-checks;
+  c-walk = c-walks;
+  c-rewrite = c-rewrites;
+  c-check-beyond = check-on;
+  c-walk-beyond = walk-on;
+  c-rewrite-beyond = rewrite-on;
+}

@@ -1,0 +1,3 @@
+pub mod CasesLaws
+pub mod DecimalLaws
+pub mod LinesLaws

@@ -1,0 +1,7 @@
+pub mod CountLaws
+pub mod FaultLaws
+pub mod FirstLaws
+pub mod LevelLaws
+pub mod LoopLaws
+pub mod RowLaws
+pub mod ValueLaws

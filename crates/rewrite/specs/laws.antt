@@ -1,0 +1,11 @@
+pub mod CasesLaws
+pub mod FlatLaws
+pub mod LengthLaws
+pub mod MessagesTheorem
+pub mod OpenLaws
+pub mod PrintLaws
+pub mod PutsLaws
+pub mod ReadLaws
+pub mod RewriteTheorems
+pub mod RoomLaws
+pub mod WriteLaws

@@ -1,0 +1,13 @@
+pub mod BytesLaws
+pub mod ClearLaws
+pub mod ClosedLaws
+pub mod EndsLaws
+pub mod FitLaws
+pub mod ListLaws
+pub mod PartLaws
+pub mod ResyncLaws
+pub mod SegmentsLaws
+pub mod StartsLaws
+pub mod SyncLaws
+pub mod UnaLaws
+pub mod WholeLaws

@@ -1,0 +1,56 @@
+-- What fit service characters are to a reader of segments. Assumes nothing.
+use Prim.Native.Nat.{ℕ, _+_, _≤_, _<_}
+use native.Mathlib.Omega.{arith}
+use mathlib.Core.Path.{_≡_, refl, sym, _∙_, ap}
+use mathlib.Core.Logic.{_⊎_, inl, inr, ⊎-elim}
+use mathlib.Core.List.{List, [], _∷_, _++_, map}
+use mathlib.Core.Bool.{Bool, true, false}
+use lib.ListN.{length}
+use lib.Dec.{eqb}
+use borrow.Author.Tests.{ne-eqb}
+use Rattle.service.specs.declared.Service.{Service}
+use Rattle.service.specs.Service.{serves, Fits}
+use Rattle.service.specs.laws.FitLaws.{serves-range}
+use Rattle.segments.specs.declared.Class.{Class}
+use Rattle.segments.specs.declared.Class.the-variants.{Plain, Comp, Elem, Rel, Term}
+use Rattle.segments.specs.Classes.{if, classOf, isBreak}
+use Rattle.segments.specs.laws.BytesLaws.{class-term, class-plain, class-plain′}
+use Rattle.segments.specs.SegmentList.{Piece, Mode, gap, pieces}
+use Rattle.segments.specs.Sync.{run, shift, relAfter, Sound}
+use Rattle.segments.specs.laws.ResyncLaws.{settles, resync}
+
+module _ (v : Service) (f : Fits v) where
+  apart : (b x : ℕ) → (b < 33) ⊎ (126 < b) → serves x ≡ true → b ≡ x → ⊥
+  apart b x o e q = ⊎-elim (λ (h : b < 33). let w = serves-range x e in omega arith) (λ (h : 126 < b). let w = serves-range x e in omega arith) o
+
+  -- a byte outside 0x21 to 0x7E is plain
+  pub plain-outside : (b : ℕ) → (b < 33) ⊎ (126 < b) → classOf v b ≡ Plain
+  plain-outside b o = go (v .releases) refl
+    where
+      go : (r : Bool) → v .releases ≡ r → classOf v b ≡ Plain
+      go true e =
+          sym
+          (class-plain v b (apart b (v .terminator) o (f .terminator)) (apart b (v .element) o (f .element)) (apart b (v .component) o (f .component)) e
+          (apart b (v .release) o (f .release e)))
+      go false e =
+          sym (class-plain′ v b (apart b (v .terminator) o (f .terminator)) (apart b (v .element) o (f .element)) (apart b (v .component) o (f .component)) e)
+
+  pub fits-sound : Sound v
+  fits-sound =
+      let h : 13 < 33 = omega arith in
+      let g : 10 < 33 = omega arith in
+      record { cr = plain-outside 13 (inl h); lf = plain-outside 10 (inl g) }
+
+  pub term-class : classOf v (v .terminator) ≡ Term
+  term-class = sym (class-term v (v .terminator) refl)
+
+  pub term-no-break : isBreak (v .terminator) ≡ false
+  term-no-break =
+      let w = serves-range (v .terminator) (f .terminator) in
+      let n : v .terminator ≡ 13 → ⊥ = λ (q : v .terminator ≡ 13). omega arith in
+      let m : v .terminator ≡ 10 → ⊥ = λ (q : v .terminator ≡ 10). omega arith in
+      simp (ne-eqb (v .terminator) 13 n, ne-eqb (v .terminator) 10 m)
+
+  -- whatever stood before, after a terminator, bytes that leave nothing released, and a terminator, nothing is open
+  pub fit-settles : (m : Mode) (p u : List ℕ) → relAfter v false u ≡ false → run v m (p ++ (v .terminator ∷ u) ++ v .terminator ∷ []) ≡ gap
+  fit-settles = settles v fits-sound (v .terminator) term-class term-no-break

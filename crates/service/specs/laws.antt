@@ -1,0 +1,4 @@
+pub mod FitLaws
+pub mod ServiceLaws
+pub mod UnaLaws
+pub mod Unique

@@ -1,0 +1,3 @@
+pub mod FewLaws
+pub mod PlacesLaws
+pub mod TalliedLaws
