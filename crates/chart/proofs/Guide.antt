@@ -1,6 +1,6 @@
 -- For any chart: where G guides, the rows of a placement come one by one, each from the one before it and its tag. Assumes nothing.
 use mathlib.Core.Path.{_≡_, refl, sym, ap, subst, _∙_}
-use mathlib.Core.Bool.{Bool, true, false}
+use mathlib.Core.Bool.{Bool, true, false, _&&_ as and, _||_ as or}
 use mathlib.Core.List.{List, [], _∷_, _++_, append-assoc, append-nil}
 use Prim.Native.Nat.{ℕ, zero, suc, _+_, _<_, _≤_}
 use native.Mathlib.Omega.{arith}
@@ -8,7 +8,7 @@ use lib.Dec.{T, eqb, eqb→eq}
 use lib.ListN.{length, getD, take, length-append, List·getD-append}
 use lib.Seq.{length-take-le, getD-take}
 use Rattle.chart.specs.Chart.{Rows, none, row, Placement}
-use Rattle.chart.specs.forms.Machine.{only, Ends, Frames, done, frame, Step, at, fail, Out, placed, stuck, pick, and, or, step, stepRows, free, run, agreeRows, agree, guides, guidesK, rowsBy, rowAfter}
+use Rattle.chart.specs.forms.Machine.{only, Ends, Frames, done, frame, Step, at, fail, Out, placed, stuck, step, stepRows, free, run, agreeRows, agree, guides, guidesK, rowsBy, rowAfter}
 use Rattle.chart.proofs.Theory.{View, place, owe, pass, view, at-fail, at-num, at-frames, step-place, step-owe, step-pass, and-left, and-right, and-make, or-cases, step-fail, step-on, step-fine, ends-free, Fine}
 use Rattle.chart.proofs.Plain.{placement-ends, placed-one}
 

@@ -1,16 +1,16 @@
 -- The table's nesting and order: it is the tree, and placing goes from rows to the rows inside them and ends. Assumes nothing.
 use mathlib.Core.Path.{_≡_, refl, sym, ap, subst, _∙_}
-use mathlib.Core.Bool.{Bool, true, false, not}
+use mathlib.Core.Bool.{Bool, true, false, not, _&&_ as and}
 use mathlib.Core.List.{[], _∷_}
 use Prim.Native.Nat.{ℕ, zero, suc, _+_, _-_, _<_, _≤_}
 use native.Mathlib.Omega.{arith}
 use lib.ListN.{length}
 use lib.Dec.{T, ltb, leb, eqb, ltb→lt, leb→le, eqb→eq}
 use borrow.Author.Tests.{eq-eqb, ne-eqb, eqb-true, eqb-false, lt-ltb, le-ltb}
-use Rattle.segments.specs.Classes.{alike}
+use Rattle.service.specs.Tests.{if, alike}
 use Rattle.chart.specs.Chart.{Rows, none, row}
 use Rattle.chart.proofs.Theory.{and-left, and-right, or-cases, nots, T-true}
-use Rattle.chart.specs.forms.Machine.{and, pick, owed}
+use Rattle.chart.specs.forms.Machine.{owed}
 use Rattle.table.specs.Entries.{parentIn, required}
 use Rattle.chart.specs.Table.{Table, chartOf}
 use Rattle.chart.specs.forms.Sound.{Sound, all-to, nests, childless, heads}
@@ -24,10 +24,10 @@ and-false : (b : Bool) → and b false ≡ false
 and-false true = refl
 and-false false = refl
 
-pub pick-true : {b : Bool} (x y : ℕ) → b ≡ true → pick b x y ≡ x
+pub pick-true : {b : Bool} (x y : ℕ) → b ≡ true → if b x y ≡ x
 pick-true {b} x y e = rw e
 
-pub pick-false : {b : Bool} (x y : ℕ) → b ≡ false → pick b x y ≡ y
+pub pick-false : {b : Bool} (x y : ℕ) → b ≡ false → if b x y ≡ y
 pick-false {b} x y e = rw e
 
 pub owed-zero : (b : Bool) (n : ℕ) → n ≡ 0 → owed b n ≡ b

@@ -7,8 +7,9 @@ use native.Mathlib.Omega.{arith}
 use lib.Dec.{ltb, eqb}
 use lib.ListN.{length, getD, take}
 use Rattle.service.specs.declared.Service.{Service}
+use Rattle.service.specs.Tests.{if}
 use borrow.Author.Tests.{ltb-true, lt-ltb, le-ltb, eq-eqb, ne-eqb}
-use Rattle.chart.specs.forms.Machine.{pick, rowsBy, rowAfter}
+use Rattle.chart.specs.forms.Machine.{rowsBy, rowAfter}
 use Rattle.chart.specs.forms.Columns.{tagOf, endOf, firstOf}
 use Rattle.chart.specs.Table.{Table, chartOf}
 use Rattle.chart.specs.forms.Sound.{Sound}
@@ -23,7 +24,7 @@ use Rattle.chart.specs.laws.CursorLaws.{passes, stands-first, stands-nex
 use Rattle.chart.proofs.Guide.{rows-first, rows-next, rows-after, rows-begun}
 use Rattle.chart.proofs.Whole.{placed-rows}
 
-pick-bound : (b : Bool) {x y n : ℕ} → x ≤ n → y ≤ n → pick b x y ≤ n
+pick-bound : (b : Bool) {x y n : ℕ} → x ≤ n → y ≤ n → if b x y ≤ n
 pick-bound true p q = p
 pick-bound false p q = q
 
@@ -38,7 +39,7 @@ chain-bound t zero r tag = omega arith
 chain-bound t (suc f) r tag = go (ltb r (length t)) refl (chain-bound t f (nextOf t r) tag)
   where
     go : (b : Bool) → ltb r (length t) ≡ b → findIn t (chainFrom t f (nextOf t r)) tag ≤ length t
-        → findIn t (pick b (r ∷ chainFrom t f (nextOf t r)) []) tag ≤ length t
+        → findIn t (if b (r ∷ chainFrom t f (nextOf t r)) []) tag ≤ length t
     go true e h = pick-bound (eqb tag (tagOf t r)) (first-bound t r (ltb-true r (length t) e)) h
     go false e h = omega arith
 

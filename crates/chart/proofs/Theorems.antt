@@ -1,7 +1,7 @@
 -- Of placements on any chart that passes the tests: there is at most one; a message that has none fails at one segment, or at its end; and where the
 -- chart's last tag is the message's last, it fails at a segment. Assumes nothing.
 use mathlib.Core.Path.{_≡_, refl, sym, ap, subst, _∙_}
-use mathlib.Core.Bool.{Bool, true, false, not}
+use mathlib.Core.Bool.{Bool, true, false, not, _&&_ as and, _||_ as or}
 use mathlib.Core.List.{List, [], _∷_, _++_, map, map-append, append-assoc, append-nil}
 use mathlib.Core.Logic.{_⊎_, inl, inr, ⊎-elim}
 use Prim.Native.Nat.{ℕ, zero, suc, _+_, _-_, _<_, _≤_}
@@ -12,7 +12,7 @@ use lib.ListN.{length, take, drop, take-append-drop}
 use lib.Seq.{take-add}
 use borrow.Author.Tests.{ltb-true, eq-eqb}
 use Rattle.chart.specs.Chart.{Rows, none, row, Placement, no-rows, row-then, Occurrences, no-more, one-then, Before, shorter, smaller, further, Reading, Unplaced, Begins, FirstMisfit, FailsAt}
-use Rattle.chart.specs.forms.Machine.{only, Decided, labels, lacking, closing, isNone, and, or, Frames, Ends, Step, at, fail, step, placed, stuck, run}
+use Rattle.chart.specs.forms.Machine.{only, Decided, labels, lacking, closing, isNone, Frames, Ends, Step, at, fail, step, placed, stuck, run}
 use Rattle.chart.proofs.Theory.{Fine, step-on, step-fail, step-fine, ends-free, and-left, and-right, nots, T-true, true-T, Said, all, part, said}
 use Rattle.chart.proofs.Plain.{placement-ends, ends-placement, stuck-fails}
 

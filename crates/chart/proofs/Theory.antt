@@ -1,14 +1,15 @@
 -- For any chart: what one step and a run of the machine say of what can be placed. Assumes nothing.
 use mathlib.Core.Path.{_≡_, refl, sym, ap, subst, _∙_}
-use mathlib.Core.Bool.{Bool, true, false, not}
+use mathlib.Core.Bool.{Bool, true, false, not, _&&_ as and, _||_ as or}
 use mathlib.Core.List.{List, [], _∷_, _++_, append-assoc, append-nil}
 use Prim.Native.Nat.{ℕ, zero, suc, _+_, _<_, _≤_}
 use native.Mathlib.Omega.{arith}
 use lib.Dec.{T, ltb, leb, eqb}
 use lib.ListN.{length, length-append, take}
 use borrow.Author.Tests.{ltb-true, ltb-false, eqb-true, eqb-false, lt-ltb, le-ltb, eq-eqb, ne-eqb}
+use Rattle.service.specs.Tests.{if}
 use Rattle.chart.specs.Chart.{Rows, none, row}
-use Rattle.chart.specs.forms.Machine.{Goes, stop, skip, have, Frames, done, frame, Ends, ends, goes, Step, at, fail, Out, placed, stuck, pick, and, or, choose, takes, owed, stepRows, step, freeRows, free, run, mayRows, may, after, doubt, clash, det, good, detK, goodK}
+use Rattle.chart.specs.forms.Machine.{Goes, stop, skip, have, Frames, done, frame, Ends, ends, goes, Step, at, fail, Out, placed, stuck, choose, takes, owed, stepRows, step, freeRows, free, run, mayRows, may, after, doubt, clash, det, good, detK, goodK}
 
 -- BOOLEANS
 pub and-left : (a b : Bool) → T (and a b) → T a
@@ -453,11 +454,11 @@ run-fail t ts K i e = rw (e, run)
 
 pub run-end : (K : Frames) (i : ℕ) → free K ≡ true → run [] K i ≡ placed
 unfolding run
-run-end K i e = ap (λ (b : Bool). pick b placed (stuck i)) e
+run-end K i e = ap (λ (b : Bool). if b placed (stuck i)) e
 
 pub run-short : (K : Frames) (i : ℕ) → free K ≡ false → run [] K i ≡ stuck i
 unfolding run
-run-short K i e = ap (λ (b : Bool). pick b placed (stuck i)) e
+run-short K i e = ap (λ (b : Bool). if b placed (stuck i)) e
 
 -- what has a placement is placed
 run-of-step : (t : ℕ) (ts : List ℕ) (K : Frames) (i : ℕ) (ns : List ℕ) → Fine K → Ends K (t ∷ ts) ns

@@ -11,11 +11,12 @@ use lib.ListN.{length, getD, drop, drop-of-length-le}
 use lib.Seq.{drop-cons}
 use borrow.Author.Tests.{ltb-true, ltb-false, lt-ltb, le-ltb, eq-eqb, ne-eqb}
 use Rattle.service.specs.declared.Service.{Service}
+use Rattle.service.specs.Tests.{if}
 use Rattle.chart.specs.declared.Cursor.{Cursor}
 use Rattle.chart.specs.declared.Went.{Went}
 use Rattle.chart.specs.declared.Went.the-variants.{To, Stuck}
 use Rattle.chart.specs.Chart.{Rows, none, row}
-use Rattle.chart.specs.forms.Machine.{Frames, frame, placed, stuck, pick, takes, owed, stepRows, step, freeRows, free, run}
+use Rattle.chart.specs.forms.Machine.{Frames, frame, placed, stuck, takes, owed, stepRows, step, freeRows, free, run}
 use Rattle.chart.specs.Table.{Table}
 use Rattle.chart.specs.forms.Columns.{tagOf, endOf, reqOf, mostOf, firstOf, rowAt, Is, RowIs, Some}
 use Rattle.chart.specs.Tags.{tagsOf}
@@ -83,7 +84,7 @@ run-eq t ts K L i e = rw (e, run)
 
 run-eq-nil : (K L : Frames) (i : ℕ) → free K ≡ free L → run [] K i ≡ run [] L i
 unfolding run
-run-eq-nil K L i e = ap (λ (b : Bool). pick b placed (stuck i)) e
+run-eq-nil K L i e = ap (λ (b : Bool). if b placed (stuck i)) e
 
 run-none : (ts : List ℕ) (c : ℕ) (K : Frames) (i : ℕ) → run ts (frame c none K) i ≡ run ts K i
 unfolding step stepRows free freeRows

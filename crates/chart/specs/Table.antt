@@ -3,7 +3,7 @@ use mathlib.Core.Bool.{Bool}
 use mathlib.Core.List.{List, [], _∷_}
 use Prim.Native.Nat.{ℕ, suc}
 use lib.Dec.{eqb}
-use Rattle.segments.specs.Classes.{if}
+use Rattle.service.specs.Tests.{if}
 use Rattle.table.specs.Entries.{tagIn, parentIn, statusIn, repeatsIn, required, never, outside}
 use Rattle.chart.specs.Chart.{Rows, none, row}
 

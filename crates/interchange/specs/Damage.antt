@@ -9,7 +9,7 @@ use Rattle.segments.specs.SegmentList.{Piece, finished}
 use Rattle.interchange.specs.declared.Opening.the-variants.{Opens}
 use Rattle.interchange.specs.Messages.{Extent, closed, unclosed, startsAt, endsAt, messagesOf}
 use Rattle.interchange.specs.Envelope.{openingOf, bodyOf}
-use Rattle.interchange.specs.Walk.{Walks, Own}
+use Rattle.interchange.specs.Walk.{Visits, Own}
 
 -- whether the last of some messages is closed, or, of none, what is given
 unfoldable pub lastClosed : Bool → List Extent → Bool
@@ -65,5 +65,5 @@ pub record Kept (v : Service) (s s′ : List ℕ) (l′ : List Piece) (before af
 pub record Survives (v : Service) (s s′ : List ℕ) (first : ℕ) (before after : List Extent) : Type 0 where
   pub opens : openingOf s′ ≡ Opens v first
   pub kept : Kept v s s′ (bodyOf v s′ first) before after
-  pub walks : Walks v s′ 0 (before ++ (kept .between ++ map (shifted (length s) (length s′)) after))
+  pub walks : Visits v s′ 0 (before ++ (kept .between ++ map (shifted (length s) (length s′)) after))
   pub owns : Own v s′ (before ++ (kept .between ++ map (shifted (length s) (length s′)) after))

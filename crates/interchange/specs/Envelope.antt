@@ -8,7 +8,7 @@ use Rattle.service.specs.declared.Service.{Service}
 use Rattle.service.specs.declared.Characters.{Characters}
 use Rattle.service.specs.declared.Characters.the-variants.{Fit, Unfit}
 use Rattle.service.specs.Service.{charactersOf}
-use Rattle.segments.specs.Classes.{if}
+use Rattle.service.specs.Tests.{if}
 use Rattle.segments.specs.forms.Bytes.{pastBreaks}
 use Rattle.segments.specs.SegmentList.{Piece, finished, unfinished, segmentsFrom}
 use Rattle.values.specs.Text.{sameList, says}

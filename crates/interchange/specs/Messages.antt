@@ -5,8 +5,8 @@ use mathlib.Core.Bool.{Bool, true, false}
 use lib.ListN.{length}
 use lib.Dec.{eqb, ltb}
 use Rattle.service.specs.declared.Service.{Service}
-use Rattle.segments.specs.Classes.{if}
-use Rattle.segments.specs.SegmentList.{Piece, finished, unfinished, segmentsFrom, segmentsAfter}
+use Rattle.service.specs.Tests.{if, isEmpty}
+use Rattle.segments.specs.SegmentList.{Piece, finished, unfinished, segmentsFrom, segmentsAfter, allFinished}
 pub use Rattle.segments.specs.SegmentList.{startOf}
 use Rattle.values.specs.Numbers.{valueFrom}
 use Rattle.values.specs.Text.{says}
@@ -16,11 +16,6 @@ use Rattle.interchange.specs.declared.Found.the-variants as found
 -- "its tag is the first component's value": the tag of the segment that begins at i
 unfoldable pub tagAt : Service → List ℕ → ℕ → List ℕ
 tagAt v s i = valueFrom v i s
-
--- whether no segment is left
-abbrev pub isNone : List Piece → Bool
-isNone [] = true
-isNone (p ∷ l) = false
 
 -- what a segment is to the envelope: UNH, UNT, the end UNZ, any other, or unfinished
 pub data Kind : Type 0 where
@@ -32,7 +27,7 @@ kindBy g e = if (says g "UNH") head (if (says g "UNT") trailer (if (says g "UNZ"
 
 -- a segment and those that follow it: "An unfinished segment counts as no UNH, no UNT and no end UNZ."
 abbrev pub kindOf : Service → List ℕ → Piece → List Piece → Kind
-kindOf v s (finished a t) l = kindBy (tagAt v s a) (isNone l)
+kindOf v s (finished a t) l = kindBy (tagAt v s a) (isEmpty l)
 kindOf v s (unfinished a e) l = cut
 
 -- a message from its first byte up to but excluding the second place
@@ -115,16 +110,11 @@ straysOf v s r [] = []
 straysOf v s r (p ∷ l) = strayBy (kindOf v s p l) r p (straysOf v s (stays (kindOf v s p l) r) l)
 
 -- ---- walking
--- whether an unfinished segment begins before e, and whether there is one anywhere
+-- whether an unfinished segment begins before e
 unfoldable pub cutBefore : ℕ → List Piece → Bool
 cutBefore e [] = false
 cutBefore e (finished a t ∷ l) = cutBefore e l
 cutBefore e (unfinished a u ∷ l) = if (ltb a e) true (cutBefore e l)
-
-unfoldable pub cutAny : List Piece → Bool
-cutAny [] = false
-cutAny (finished a t ∷ l) = cutAny l
-cutAny (unfinished a u ∷ l) = true
 
 -- a message and the segments among which it was sought: "an unfinished segment before the found message's end"
 abbrev pub foundOne : Extent → List Piece → Found
@@ -132,7 +122,7 @@ foundOne m l = if (cutBefore (endsAt m) l) found.Unfinished (found.Message (star
 
 -- ", or anywhere if none is found"
 abbrev pub foundBy : List Extent → List Piece → Found
-foundBy [] l = if (cutAny l) found.Unfinished found.Nothing
+foundBy [] l = if (allFinished l) found.Nothing found.Unfinished
 foundBy (m ∷ ms) l = foundOne m l
 
 unfoldable pub foundIn : Service → List ℕ → List Piece → Found

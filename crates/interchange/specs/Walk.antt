@@ -13,9 +13,9 @@ allMessages v s = messagesOf v s (segmentsAfter v s 0)
 
 -- "gives its start and its end, which is the next position": walking from a position again and again visits these messages, in this order, and then
 -- answers that none is left
-pub data Walks (v : Service) (s : List ℕ) : ℕ → List Extent → Type 0 where
-  done : (at : ℕ) → foundFrom v s at ≡ found.Nothing → Walks v s at []
-  step : (at : ℕ) (m : Extent) (ms : List Extent) → foundFrom v s at ≡ found.Message (startsAt m) (endsAt m) → Walks v s (endsAt m) ms → Walks v s at (m ∷ ms)
+pub data Visits (v : Service) (s : List ℕ) : ℕ → List Extent → Type 0 where
+  done : (at : ℕ) → foundFrom v s at ≡ found.Nothing → Visits v s at []
+  step : (at : ℕ) (m : Extent) (ms : List Extent) → foundFrom v s at ≡ found.Message (startsAt m) (endsAt m) → Visits v s (endsAt m) ms → Visits v s at (m ∷ ms)
 
 -- what is found at a message's own first byte is that message
 pub data Own (v : Service) (s : List ℕ) : List Extent → Type 0 where

@@ -8,7 +8,7 @@ use lib.Dec.{eqb}
 use lib.ListN.{length, take, drop, set, length-drop}
 use borrow.Author.Tests.{eq-eqb, ne-eqb}
 use Rattle.service.specs.declared.Service.{Service}
-use Rattle.segments.specs.Classes.{if}
+use Rattle.service.specs.Tests.{if}
 use Rattle.values.specs.forms.Values.{amountOf}
 use Rattle.lent.specs.forms.Kept.{Kept}
 use Rattle.lent.specs.laws.KeptLaws.{kept-start, kept-set}

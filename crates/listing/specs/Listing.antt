@@ -5,7 +5,7 @@ use mathlib.Core.List.{List, map}
 use lib.Dec.{leb}
 use lib.ListN.{length, take}
 use Rattle.service.specs.declared.Service.{Service}
-use Rattle.segments.specs.Classes.{if}
+use Rattle.service.specs.Tests.{if}
 use Rattle.segments.specs.SegmentList.{startsOf}
 use Rattle.chart.specs.Table.{Table}
 use Rattle.chart.specs.Tags.{tagsOf}

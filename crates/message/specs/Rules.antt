@@ -5,7 +5,7 @@ use mathlib.Core.List.{List, [], _∷_, _++_, map}
 use mathlib.Core.Bool.{Bool, true, false, not, _&&_, _||_}
 use lib.ListN.{length}
 use lib.Dec.{eqb, leb}
-use Rattle.segments.specs.Classes.{if, alike}
+use Rattle.service.specs.Tests.{if, isEmpty, alike}
 use Rattle.values.specs.declared.Amount.{Amount}
 use Rattle.values.specs.declared.Amount.the-variants.{Of, Not}
 use Rattle.values.specs.forms.Values.{codeOf, numberOf, isNumber, amountOf, isCapitals}
@@ -20,11 +20,6 @@ writes l n = isNumber (numberOf l) n
 -- "three capitals" (`capitals-exactly` of TextLaws: exactly if ThreeCapitals)
 abbrev pub capitals : List ℕ → Bool
 capitals l = isCapitals (codeOf l)
-
--- "Empty and absent are the same."
-abbrev pub isEmpty : List ℕ → Bool
-isEmpty [] = true
-isEmpty (b ∷ l) = false
 
 -- the thousandths of an amount; one without the form counts 0, and 22 comes before what that could change
 abbrev pub worth : Amount → ℕ

@@ -1,7 +1,7 @@
 // The parties of an order (level B) and of a payment (level C): rule 27.
 ghost use mathlib.Core.Path.{_≡_};
 ghost use mathlib.Core.Bool.{true, false, _&&_};
-ghost use Rattle.segments.specs.Classes.{if, alike as alikeOf};
+ghost use Rattle.service.specs.Tests.{if, alike as alikeOf};
 ghost use Rattle.faults.specs.Firsts.{lesser};
 ghost use Rattle.values.specs.Numbers.{valueIn};
 ghost use Rattle.message.specs.Segs.{segAt};

@@ -85,7 +85,3 @@ strangeFrom v false i (b ∷ s) =
 -- those of the segment that begins at a
 abbrev pub strangeIn : Service → List ℕ → ℕ → List ℕ
 strangeIn v m a = strangeFrom v false a (drop a m)
-
-abbrev pub isNil : List ℕ → Bool
-isNil [] = true
-isNil (x ∷ l) = false

@@ -8,9 +8,9 @@ use lib.ListN.{length, getD}
 use lib.Dec.{eqb, leb}
 use Rattle.service.specs.declared.Service.{Service}
 use Rattle.service.specs.Service.{fitting}
-use Rattle.segments.specs.Classes.{if}
+use Rattle.service.specs.Tests.{if, isEmpty}
 use Rattle.segments.specs.SegmentList.{Piece, startOf, segmentsFrom, startsOf, startAt}
-use Rattle.parts.specs.Parts.{strangeIn, isNil}
+use Rattle.parts.specs.Parts.{strangeIn}
 use Rattle.values.specs.Text.{says}
 use Rattle.values.specs.Numbers.{valueIn}
 use Rattle.interchange.specs.declared.Refusal.{Refusal}
@@ -42,7 +42,7 @@ pub record Bare : Type 0 where
   pub segments : List Raw
 
 abbrev pub rawOf : Service → List ℕ → Piece → Raw
-rawOf v m p = record { usual = isNil (strangeIn v m (startOf p)); value = valueIn v (startOf p) m }
+rawOf v m p = record { usual = isEmpty (strangeIn v m (startOf p)); value = valueIn v (startOf p) m }
 
 abbrev pub bareOf : Service → List ℕ → Bare
 bareOf v m = record { short = leb (length m) 1048576; fit = fitting v; closed = endsClosed v m; segments = map (rawOf v m) (segmentsFrom v m 0) }

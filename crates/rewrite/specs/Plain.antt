@@ -7,7 +7,8 @@ use mathlib.Core.Bool.{Bool, _&&_}
 use lib.ListN.{length}
 use lib.Dec.{leb}
 use Rattle.service.specs.Service.{among}
-use Rattle.segments.specs.Classes.{if, isBreak}
+use Rattle.service.specs.Tests.{if}
+use Rattle.segments.specs.Classes.{isBreak}
 use Rattle.parts.specs.Trimmed.{Values, valuesFrom}
 use Rattle.interchange.specs.declared.Opening.{Opening}
 use Rattle.interchange.specs.declared.Opening.the-variants as opening

@@ -1,20 +1,11 @@
 -- What a byte is to a reader of segments, as document 01, "Bytes to segments", says.
 use Prim.Native.Nat.{ℕ}
-use mathlib.Core.Bool.{Bool, true, false, not}
+use mathlib.Core.Bool.{Bool, true, false}
 use lib.Dec.{eqb}
 use Rattle.service.specs.declared.Service.{Service}
+use Rattle.service.specs.Tests.{if}
 use Rattle.segments.specs.declared.Class.{Class}
 use Rattle.segments.specs.declared.Class.the-variants.{Plain, Comp, Elem, Rel, Term}
-
--- `a` where the test holds, else `b`
-abbrev pub if : {A : Type 0} → Bool → A → A → A
-if true a b = a
-if false a b = b
-
--- "exactly if"
-abbrev pub alike : Bool → Bool → Bool
-alike true b = b
-alike false b = not b
 
 -- "component separator, element separator, .. release, .. terminator": what a byte is where no release stands before it
 unfoldable pub classOf : Service → ℕ → Class

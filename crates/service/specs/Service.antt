@@ -8,6 +8,7 @@ use lib.Dec.{eqb, leb}
 use Rattle.service.specs.declared.Service.{Service}
 use Rattle.service.specs.declared.Characters.{Characters}
 use Rattle.service.specs.declared.Characters.the-variants.{Fit, Unfit}
+use Rattle.service.specs.Tests.{if}
 
 -- "Without UNA they are `:` `+` `,` `?` space `'`." The mark serves no segment, so it is not kept.
 abbrev pub plainService : Service
@@ -59,14 +60,9 @@ fit c e m r p t =
 abbrev pub serviceOf : ℕ → ℕ → ℕ → ℕ → Service
 serviceOf c e r t = record { component = c; element = e; release = r; releases = not (isNone r); terminator = t }
 
--- the first where the test holds, else the second
-abbrev pub pick : Bool → Characters → Characters → Characters
-pick true a b = a
-pick false a b = b
-
 -- "service characters break the rule above" (number 2) where they are not fit; UNA and they are nine bytes
 unfoldable pub namedBy : ℕ → ℕ → ℕ → ℕ → ℕ → ℕ → Characters
-namedBy c e m r p t = pick (fit c e m r p t) (Fit (serviceOf c e r t) 9) Unfit
+namedBy c e m r p t = if (fit c e m r p t) (Fit (serviceOf c e r t) 9) Unfit
 
 -- what characters are that a reader may go by: each fit by itself, those present all different
 abbrev pub servingBy : Bool → Service → List ℕ
@@ -94,6 +90,6 @@ beginsUna s = eqb (getD s 0 0) 85 && (eqb (getD s 1 0) 78 && eqb (getD s 2 0) 65
 -- Fewer than six are cut short (number 2).
 unfoldable pub charactersOf : List ℕ → Characters
 charactersOf s =
-    pick (beginsUna s)
-    (pick (leb 9 (length s)) (namedBy (getD s 3 0) (getD s 4 0) (getD s 5 0) (getD s 6 0) (getD s 7 0) (getD s 8 0)) Unfit)
+    if (beginsUna s)
+    (if (leb 9 (length s)) (namedBy (getD s 3 0) (getD s 4 0) (getD s 5 0) (getD s 6 0) (getD s 7 0) (getD s 8 0)) Unfit)
     (Fit plainService 0)

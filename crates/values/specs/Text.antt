@@ -5,7 +5,7 @@ use Prim.Native.String.{String, [] as end, _∷_ as _before_}
 use mathlib.Core.Bool.{Bool, true, false}
 use mathlib.Core.List.{List, [], _∷_}
 use lib.Dec.{eqb}
-use Rattle.segments.specs.Classes.{if}
+use Rattle.service.specs.Tests.{if}
 
 -- the bytes of letters
 unfoldable pub text : String → List ℕ

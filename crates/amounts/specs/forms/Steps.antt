@@ -3,8 +3,8 @@ use Prim.Native.Nat.{ℕ, _+_, min}
 use mathlib.Core.List.{List}
 use mathlib.Core.Bool.{Bool, true, false, not, _&&_, _||_}
 use lib.Dec.{eqb}
-use Rattle.segments.specs.Classes.{if}
 use Rattle.service.specs.declared.Service.{Service}
+use Rattle.service.specs.Tests.{if}
 use Rattle.values.specs.forms.Values.{amountOf, letters}
 use Rattle.values.specs.Text.{sameList, says}
 use Rattle.values.specs.Numbers.{valueIn}

@@ -5,7 +5,6 @@ use mathlib.Core.List.{List}
 use mathlib.Core.Bool.{Bool, true, false, not, _&&_, _||_}
 use lib.Dec.{eqb}
 use borrow.Author.Tests.{eq-eqb, ne-eqb}
-use Rattle.segments.specs.Classes.{if}
 use Rattle.service.specs.declared.Service.{Service}
 use Rattle.values.specs.declared.Amount.{Amount}
 use Rattle.values.specs.declared.Amount.the-variants.{Of, Not}
@@ -18,7 +17,7 @@ use Rattle.faults.specs.declared.First.the-variants as first
 use Rattle.faults.specs.Firsts.{lesser, placeUnless}
 use Rattle.faults.specs.laws.FirstsLaws.{lesser-last}
 use Rattle.message.specs.Segs.{segAt}
-use Rattle.message.specs.Rules.{isOf, worth, isEmpty, capitals, firstHolds, secondHolds, isBase, basesHold, cuxHolds}
+use Rattle.message.specs.Rules.{isOf, worth, capitals, firstHolds, secondHolds, isBase, basesHold, cuxHolds}
 use Rattle.message.specs.forms.Run.{testStep}
 use Rattle.message.specs.forms.Counts.{someStep, most}
 use Rattle.message.specs.laws.ValueLaws.{empty-code}

@@ -5,9 +5,9 @@ use mathlib.Core.List.{List, []}
 use Prim.Native.Nat.{ℕ, _+_, _<_, _≤_}
 use lib.Dec.{ltb}
 use lib.ListN.{getD, length}
+use Rattle.service.specs.Tests.{if}
 use Rattle.table.specs.Entries.{tagIn, parentIn, endIn, statusIn, repeatsIn, required}
 use Rattle.chart.specs.Chart.{Rows, none, row}
-use Rattle.chart.specs.forms.Machine.{pick}
 use Rattle.chart.specs.Table.{Table, mostIn}
 
 -- the line of row r
@@ -37,7 +37,7 @@ mostOf t r = mostIn (lineOf t r)
 
 -- the row of the first segment of an occurrence: the next row for a group, the row itself for a segment
 unfoldable pub firstOf : Table → ℕ → ℕ
-firstOf t r = pick (ltb (r + 1) (endOf t r)) (r + 1) r
+firstOf t r = if (ltb (r + 1) (endOf t r)) (r + 1) r
 
 -- the rows of the table from lo to hi are these
 pub data Is (t : Table) : ℕ → ℕ → Rows → Type 0 where

@@ -5,9 +5,9 @@ use Prim.Native.Nat.{ℕ, _<_, _≤_}
 use lib.Dec.{ltb}
 use lib.ListN.{length, drop}
 use Rattle.service.specs.declared.Service.{Service}
+use Rattle.service.specs.Tests.{if}
 use Rattle.segments.specs.declared.Segment.{Segment}
 use Rattle.segments.specs.declared.Segment.the-variants.{Finished, Unfinished, Nothing}
-use Rattle.segments.specs.Classes.{if}
 use Rattle.segments.specs.forms.Segments.{segmentAt}
 use Rattle.chart.specs.declared.Cursor.{Cursor}
 use Rattle.chart.specs.Tags.{tagOn, tagsFrom, tagsOf}

@@ -1,10 +1,11 @@
 -- The machine of the proofs: placements counted, the frames that are open, one step, a run, and the tests of a chart. A reader of the definitions need
 -- not read it: what it says of placements is proved.
-use mathlib.Core.Bool.{Bool, true, false, not}
+use mathlib.Core.Bool.{Bool, true, false, not, _&&_ as and, _||_ as or}
 use mathlib.Core.List.{List, [], _∷_}
 use Prim.Native.Nat.{ℕ, zero, suc, _<_, _≤_}
 use lib.Dec.{T, ltb, eqb}
 use lib.ListN.{getD}
+use Rattle.service.specs.Tests.{if}
 use Rattle.chart.specs.Chart.{Rows, none, row}
 
 -- placements counted: from the tags ts, of which the first row has been had c times, to what is left, us; and so the numbers
@@ -33,18 +34,6 @@ pub data Step : Type 0 where
 pub data Out : Type 0 where
   placed : Out
   stuck : ℕ → Out
-
-abbrev pub pick : {A : Type 0} → Bool → A → A → A
-pick true a b = a
-pick false a b = b
-
-abbrev pub and : Bool → Bool → Bool
-and true b = b
-and false b = false
-
-abbrev pub or : Bool → Bool → Bool
-or true b = true
-or false b = b
 
 -- a row is had, it is owed, or it is passed
 unfoldable pub choose : {A : Type 0} → Bool → Bool → A → A → A → A
@@ -83,7 +72,7 @@ free (frame c rows K) = freeRows c rows (free K)
 
 -- the machine's answer on the tags, of which i stand before them: placed, or how many tags stand before the one that fails
 unfoldable pub run : List ℕ → Frames → ℕ → Out
-run [] K i = pick (free K) placed (stuck i)
+run [] K i = if (free K) placed (stuck i)
 run (t ∷ ts) K i = elim (step K t) [ at num L ↦ run ts L (suc i) | fail ↦ stuck i ]
 
 -- DETERMINISM

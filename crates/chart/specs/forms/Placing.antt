@@ -1,7 +1,7 @@
 -- What placing rows, and the occurrences of a row, comes to: the machine's run, whatever is to be placed after them.
 use mathlib.Core.Path.{_≡_}
 use mathlib.Core.List.{List}
-use mathlib.Core.Bool.{Bool}
+use mathlib.Core.Bool.{Bool, _&&_ as and}
 use Prim.Native.Nat.{ℕ, zero, _+_}
 use lib.Dec.{ltb}
 use lib.ListN.{length, getD, drop}
@@ -10,7 +10,7 @@ use Rattle.chart.specs.declared.Cursor.{Cursor}
 use Rattle.chart.specs.declared.Went.{Went}
 use Rattle.chart.specs.declared.Went.the-variants.{To, Stuck}
 use Rattle.chart.specs.Chart.{Rows}
-use Rattle.chart.specs.forms.Machine.{Frames, frame, stuck, run, and, takes}
+use Rattle.chart.specs.forms.Machine.{Frames, frame, stuck, run, takes}
 use Rattle.chart.specs.Table.{Table}
 use Rattle.chart.specs.forms.Columns.{firstOf, endOf, rowAt, Is}
 use Rattle.chart.specs.Tags.{tagsOf}

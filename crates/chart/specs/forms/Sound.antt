@@ -1,13 +1,13 @@
 -- The tests that a table passes by being computed; what follows from them is proved once for every table that passes.
-use mathlib.Core.Bool.{Bool, true, not}
+use mathlib.Core.Bool.{Bool, true, not, _&&_ as and, _||_ as or}
 use mathlib.Core.List.{[], _∷_}
 use Prim.Native.Nat.{ℕ, zero, suc, _+_}
 use lib.Dec.{T, ltb, leb, eqb}
 use lib.ListN.{length}
-use Rattle.segments.specs.Classes.{alike}
+use Rattle.service.specs.Tests.{alike}
 use Rattle.table.specs.Entries.{parentIn, required}
 use Rattle.chart.specs.Chart.{Rows, none, row}
-use Rattle.chart.specs.forms.Machine.{and, or, only, detK, goodK, agree, guidesK, labels, closing}
+use Rattle.chart.specs.forms.Machine.{only, detK, goodK, agree, guidesK, labels, closing}
 use Rattle.chart.specs.forms.Codes.{UNT}
 use Rattle.chart.specs.Table.{Table, chartOf}
 use Rattle.chart.specs.forms.Columns.{tagOf, parentOf, statusOf, repeatsOf, endOf, reqOf, mostOf, firstOf}

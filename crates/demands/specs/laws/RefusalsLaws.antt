@@ -14,7 +14,7 @@ use Rattle.service.specs.declared.Characters.{Characters}
 use Rattle.service.specs.declared.Characters.the-variants.{Fit, Unfit}
 use Rattle.service.specs.Service.{among, Fits, fitting, charactersOf}
 use Rattle.service.specs.laws.FitLaws.{fits-if}
-use Rattle.segments.specs.Classes.{if}
+use Rattle.service.specs.Tests.{if}
 use Rattle.segments.specs.SegmentList.{segmentsFrom, startsOf, startAt}
 use Rattle.segments.specs.laws.StartsLaws.{starts-past, starts-count, starts-here}
 use Rattle.values.specs.Text.{sameList}

@@ -17,7 +17,7 @@ use Rattle.interchange.specs.Envelope.{refusal, openingOf, bodyOf}
 use Rattle.interchange.specs.laws.OpenedLaws.{opened}
 use Rattle.interchange.specs.laws.FindLaws.{extent-starts}
 use Rattle.interchange.specs.laws.SurveyLaws.{past-within}
-use Rattle.interchange.specs.Walk.{Walks, Own}
+use Rattle.interchange.specs.Walk.{Visits, Own}
 use Rattle.interchange.specs.Walk as walk
 use Rattle.interchange.specs.laws.WalkLaws.{Placed}
 use Rattle.interchange.specs.laws.WalkLaws as placed
@@ -31,7 +31,7 @@ use Rattle.report.specs.laws.ReportedLaws.{one-report}
 use Rattle.walk.specs.declared.Walked.{Walked}
 use Rattle.walk.specs.declared.Walked.the-variants as walked
 use Rattle.walk.specs.Frame.{message, nothing, refused, stepBy, stepAt, stepWith, stepFrom}
-use Rattle.walk.specs.Walks.{between, Walks as Stepping}
+use Rattle.walk.specs.Walks.{between, Walks}
 use Rattle.walk.specs.Walks as stepping
 use Rattle.demands.specs.Runs.{Visit, Run, done, next, Steps, Owned, Told, Over, none, also, moved}
 
@@ -75,7 +75,7 @@ module _ (s : List ℕ) (v : Service) (first : ℕ) (o : openingOf s ≡ Opens v
   unfolding stepAt
   step-out at h = step-is at ∙ rw (lt-ltb _ _ h)
 
-  pub steps : {at : ℕ} {ms : List Extent} → at ≤ length s → Inside (length s) ms → Walks v s at ms → Steps s at ms
+  pub steps : {at : ℕ} {ms : List Extent} → at ≤ length s → Inside (length s) ms → Visits v s at ms → Steps s at ms
   steps h w (walk.done at e) = done at (step-in at h ∙ ap stepBy e)
   steps h (cons _ _ a b w) (walk.step at m ms e r) = next at m ms (step-in at h ∙ ap stepBy e) (steps b w r)
 
@@ -84,7 +84,7 @@ module _ (s : List ℕ) (v : Service) (first : ℕ) (o : openingOf s ≡ Opens v
   owned (cons _ _ a b w) (walk.also m ms e r) = also m ms (step-in (startsAt m) a ∙ ap stepBy e) (owned w r)
 
   -- ---- what the calls give
-  pub step-message : {at : ℕ} {k k′ : Lists} {y : Walked} → Stepping s at k k′ y → (a e : ℕ) (x : Report) → y ≡ walked.Message a e x
+  pub step-message : {at : ℕ} {k k′ : Lists} {y : Walked} → Walks s at k k′ y → (a e : ℕ) (x : Report) → y ≡ walked.Message a e x
       → (stepFrom s at ≡ message a e) × Reported v (between s a e) k k′ x
   step-message (stepping.walks-message v′ una b c z n p q) a e x f =
       let i : b ≡ a = cc in
@@ -96,7 +96,7 @@ module _ (s : List ℕ) (v : Service) (first : ℕ) (o : openingOf s ≡ Opens v
   step-message (stepping.walks-nothing p q) a e x f = absurd (let z : _≡_ {A = ℕ} 0 1 = cc in omega arith)
   step-message (stepping.walks-refused c p q) a e x f = absurd (let z : _≡_ {A = ℕ} 0 1 = cc in omega arith)
 
-  step-nothing : {at : ℕ} {k k′ : Lists} {y : Walked} → Stepping s at k k′ y → y ≡ walked.Nothing → stepFrom s at ≡ nothing
+  step-nothing : {at : ℕ} {k k′ : Lists} {y : Walked} → Walks s at k k′ y → y ≡ walked.Nothing → stepFrom s at ≡ nothing
   step-nothing (stepping.walks-message v′ una b c z n p q) f = absurd (let z : _≡_ {A = ℕ} 0 1 = cc in omega arith)
   step-nothing (stepping.walks-nothing p q) f = sym p
   step-nothing (stepping.walks-refused c p q) f = absurd (let z : _≡_ {A = ℕ} 0 1 = cc in omega arith)
@@ -133,7 +133,7 @@ module _ (s : List ℕ) (v : Service) (first : ℕ) (o : openingOf s ≡ Opens v
           let z : _≡_ {A = ℕ} 0 1 = cc in omega arith
 
   -- calls one after the other tell of exactly the messages that are found
-  pub run-over : (x : Lists) {at : ℕ} {ms : List Extent} {l : List Visit} → Walks v s at ms → Run s x at l → Over v s x ms l
+  pub run-over : (x : Lists) {at : ℕ} {ms : List Extent} {l : List Visit} → Visits v s at ms → Run s x at l → Over v s x ms l
   run-over x (walk.done at e) (done _ x′ j) = none
   run-over x (walk.done at e) (next _ w l j g) = absurd (let p = step-message j (w .start) (w .end) (w .given .answer) refl in found-none at (w .start) (w .end) (p .0) e)
   run-over x (walk.step at m ms e r) (done _ _ j) = absurd (none-found at (startsAt m) (endsAt m) (step-nothing j refl) e)

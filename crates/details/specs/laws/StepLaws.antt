@@ -5,7 +5,6 @@ use mathlib.Core.List.{List}
 use mathlib.Core.Bool.{Bool, true, false, not, _&&_, _||_}
 use lib.Dec.{eqb}
 use borrow.Author.Tests.{eq-eqb, ne-eqb}
-use Rattle.segments.specs.Classes.{if}
 use Rattle.service.specs.declared.Service.{Service}
 use Rattle.values.specs.Numbers.{valueIn}
 use Rattle.values.specs.forms.Values.{codeFrom, codeOf}

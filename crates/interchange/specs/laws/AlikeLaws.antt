@@ -8,7 +8,7 @@ use lib.ListN.{length, drop}
 use lib.Seq.{drop-length}
 use lib.Dec.{T, eqb}
 use Rattle.service.specs.declared.Service.{Service}
-use Rattle.segments.specs.Classes.{if}
+use Rattle.service.specs.Tests.{if, isEmpty}
 use Rattle.segments.specs.SegmentList.{Piece, finished, unfinished, allFinished}
 use Rattle.parts.specs.Parts.{lex, elements}
 use Rattle.parts.specs.laws.ValueLaws.{tag-value}
@@ -17,7 +17,7 @@ use Rattle.parts.specs.laws.TrimLaws.{same-at}
 use Rattle.values.specs.Text.{sameList, says}
 use Rattle.values.specs.Numbers.{valueFrom, valueIn}
 use Rattle.values.specs.forms.Values.{numberOf, isNumber}
-use Rattle.interchange.specs.Messages.{tagAt, isNone, Kind, head, trailer, last, other, cut, kindBy, kindOf, Extent, extentOf, messagesBy, messagesOf, stays, strayBy, straysOf}
+use Rattle.interchange.specs.Messages.{tagAt, Kind, head, trailer, last, other, cut, kindBy, kindOf, Extent, extentOf, messagesBy, messagesOf, stays, strayBy, straysOf}
 use Rattle.interchange.specs.Envelope.{isReference, isHeader, headed, lastUnz, lastStart, closingNumber}
 use Rattle.interchange.specs.Alike.{Alike, none, both}
 
@@ -55,7 +55,7 @@ module _ (v : Service) (s : List ℕ) (v′ : Service) (s′ : List ℕ) where
         (ap₂ (λ (x y : List ℕ). says x "3" && isReference (length y)) (same-value 1 1) (same-value 5 0))
 
   -- ---- lists of such segments
-  pub same-none : {l l′ : List Piece} → Alike v s v′ s′ l l′ → isNone l ≡ isNone l′
+  pub same-none : {l l′ : List Piece} → Alike v s v′ s′ l l′ → isEmpty l ≡ isEmpty l′
   same-none none = refl
   same-none (both a t a′ t′ l l′ q w) = refl
 

@@ -9,11 +9,11 @@ use lib.ListN.{length, drop}
 use lib.Seq.{drop-append-le}
 use lib.Dec.{T}
 use Rattle.service.specs.declared.Service.{Service}
+use Rattle.service.specs.Tests.{if, isEmpty}
 use Rattle.segments.specs.declared.End.{End}
 use Rattle.segments.specs.declared.End.the-variants.{At, None}
 use Rattle.segments.specs.declared.Segment.{Segment}
 use Rattle.segments.specs.declared.Segment.the-variants as segment
-use Rattle.segments.specs.Classes.{if}
 use Rattle.segments.specs.forms.Bytes.{endFrom, pastBreaks}
 use Rattle.segments.specs.forms.Segments.{segmentBy, segmentAt}
 use Rattle.segments.specs.laws.SegmentsLaws.{segment-nothing, segment-by, lies}
@@ -22,7 +22,7 @@ use Rattle.segments.specs.laws.ListLaws.{list-nothing, list-finished, list-unfi
 use Rattle.parts.specs.Parts.{lex, valueOf}
 use Rattle.parts.specs.laws.PartLaws.{lex-part}
 use Rattle.values.specs.Text.{says}
-use Rattle.interchange.specs.Messages.{tagAt, isNone, head, trailer, last, other, Extent, extentBy, extentOf, messagesBy}
+use Rattle.interchange.specs.Messages.{tagAt, head, trailer, last, other, Extent, extentBy, extentOf, messagesBy}
 use Rattle.interchange.specs.laws.DamageLaws.{beginning}
 
 -- whether a message stands open after the segments l, where one stood open before them or not
@@ -46,8 +46,8 @@ agree-both v s s′ x l (unf a e k w) (unf _ _ _ w′) = unf a e k (agree-both v
 module _ (v : Service) (s s′ : List ℕ) (r r′ : List Piece) where
   ends-by : (i a t : ℕ) (l : List Piece) (x y z : Bool) → stands v s′ (if x true (if y false true)) l ≡ false
       → (stands v s′ true l ≡ false → extentOf v s i (l ++ r) ≡ extentOf v s′ i (l ++ r′))
-      → extentBy (if x head (if y trailer (if z (if (isNone (l ++ r)) last other) other))) (finished a t) i (extentOf v s i (l ++ r))
-      ≡ extentBy (if x head (if y trailer (if z (if (isNone (l ++ r′)) last other) other))) (finished a t) i (extentOf v s′ i (l ++ r′))
+      → extentBy (if x head (if y trailer (if z (if (isEmpty (l ++ r)) last other) other))) (finished a t) i (extentOf v s i (l ++ r))
+      ≡ extentBy (if x head (if y trailer (if z (if (isEmpty (l ++ r′)) last other) other))) (finished a t) i (extentOf v s′ i (l ++ r′))
   unfolding stands
   ends-by i a t l true y z h ih = refl
   ends-by i a t l false true z h ih = refl
@@ -65,11 +65,11 @@ module _ (v : Service) (s s′ : List ℕ) (r r′ : List Piece) where
 
   begins-by : (b : Bool) (l : List Piece) (x y z : Bool) (m m′ : Extent) (k k′ : List Extent) → stands v s′ (if x true (if y false b)) l ≡ false → (stands v s′ true l ≡ false → m ≡ m′)
       → ((c : Bool) → stands v s′ c l ≡ false → k ≡ k′)
-      → messagesBy (if x head (if y trailer (if z (if (isNone (l ++ r)) last other) other))) m k ≡ messagesBy (if x head (if y trailer (if z (if (isNone (l ++ r′)) last other) other))) m′ k′
+      → messagesBy (if x head (if y trailer (if z (if (isEmpty (l ++ r)) last other) other))) m k ≡ messagesBy (if x head (if y trailer (if z (if (isEmpty (l ++ r′)) last other) other))) m′ k′
   begins-by b l true y z m m′ k k′ h e ih = ap₂ (λ (u : Extent) (w : List Extent). u ∷ w) (e h) (ih true h)
   begins-by b l false true z m m′ k k′ h e ih = ih false h
   begins-by b l false false false m m′ k k′ h e ih = ih b h
-  begins-by b l false false true m m′ k k′ h e ih = both (isNone (l ++ r)) (isNone (l ++ r′))
+  begins-by b l false false true m m′ k k′ h e ih = both (isEmpty (l ++ r)) (isEmpty (l ++ r′))
     where
       both : (t u : Bool) → messagesBy (if t last other) m k ≡ messagesBy (if u last other) m′ k′
       both true true = ih b h

@@ -7,7 +7,7 @@ use mathlib.Core.Bool.{Bool, true, false}
 use lib.ListN.{length, drop}
 use borrow.Author.Tests.{eq-eqb, ne-eqb}
 use Rattle.service.specs.declared.Service.{Service}
-use Rattle.segments.specs.Classes.{if}
+use Rattle.service.specs.Tests.{if}
 use Rattle.segments.specs.SegmentList.{Piece, finished, unfinished, Mode, gap, first as initial, inside, held, after, ends, startIn, emit, left, pieces, segmentsFrom}
 use Rattle.values.specs.Numbers.{valueIn}
 use Rattle.values.specs.Text.{sameList, text, says}

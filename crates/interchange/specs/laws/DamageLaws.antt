@@ -7,10 +7,11 @@ use mathlib.Core.Bool.{false}
 use lib.ListN.{length, length-append}
 use lib.Seq.{drop-append-add}
 use Rattle.service.specs.declared.Service.{Service}
+use Rattle.service.specs.Tests.{isEmpty}
 use Rattle.segments.specs.SegmentList.{Piece, finished, unfinished}
 use Rattle.segments.specs.Sync.{shift}
 use Rattle.parts.specs.Parts.{lex, valueOf}
-use Rattle.interchange.specs.Messages.{tagAt, startOf, isNone, Kind, head, trailer, last, other, cut, kindBy, kindOf, Extent, closed, unclosed, pastOf, extentBy, extentOf, messagesBy, messagesOf}
+use Rattle.interchange.specs.Messages.{tagAt, startOf, Kind, head, trailer, last, other, cut, kindBy, kindOf, Extent, closed, unclosed, pastOf, extentBy, extentOf, messagesBy, messagesOf}
 
 -- the same message, k bytes further on
 abbrev pub moved : ℕ → Extent → Extent
@@ -43,7 +44,7 @@ module _ (v : Service) (x r : List ℕ) where
   unfolding tagAt
   tag-moved i = ap (λ (l : List ℕ). valueOf (lex v false l)) (drop-append-add x r i)
 
-  none-moved : (l : List Piece) → isNone (map (shift (length x)) l) ≡ isNone l
+  none-moved : (l : List Piece) → isEmpty (map (shift (length x)) l) ≡ isEmpty l
   none-moved [] = refl
   none-moved (p ∷ l) = refl
 

@@ -12,7 +12,7 @@ use Rattle.interchange.specs.declared.Opening.the-variants.{Opens}
 use Rattle.interchange.specs.Messages.{Extent, closed, messagesOf}
 use Rattle.interchange.specs.Envelope.{openingOf, afterFirst, bodyOf}
 use Rattle.interchange.specs.laws.OpenedLaws.{opened}
-use Rattle.interchange.specs.Walk.{Walks, Own}
+use Rattle.interchange.specs.Walk.{Visits, Own}
 use Rattle.interchange.specs.laws.WalkTheorems.{header, owns}
 use Rattle.interchange.specs.laws.ZeroTheorems.{walks-zero}
 use Rattle.interchange.specs.Damage.{lastClosed, Target, replaced, Kept, Survives}
@@ -41,7 +41,7 @@ damage s v first o before a t e after w d h =
     record {
       opens = o′;
       kept = k;
-      walks = subst (Walks v s′ 0) (k .same) (walks-zero s′ v first o′);
+      walks = subst (Visits v s′ 0) (k .same) (walks-zero s′ v first o′);
       owns = subst (Own v s′) (k .same) (owns s′ v first o′);
     }
 

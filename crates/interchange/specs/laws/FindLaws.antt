@@ -9,18 +9,18 @@ use lib.ListN.{length, drop}
 use lib.Dec.{eqb, leb}
 use borrow.Author.Tests.{le-ltb, lt-ltb, eqb-true}
 use Rattle.service.specs.declared.Service.{Service}
+use Rattle.service.specs.Tests.{if}
 use Rattle.segments.specs.declared.Segment.{Segment}
 use Rattle.segments.specs.declared.Segment.the-variants as segment
-use Rattle.segments.specs.Classes.{if}
 use Rattle.segments.specs.forms.Bytes.{pastBreaks}
 use Rattle.segments.specs.forms.Segments.{segmentAt}
 use Rattle.segments.specs.laws.SegmentsLaws.{segment-nothing, lies}
-use Rattle.segments.specs.SegmentList.{Piece, finished, Mode, gap, first, inside, held, after, ends, startIn, emit, left, pieces, segmentsFrom}
+use Rattle.segments.specs.SegmentList.{Piece, finished, Mode, gap, first, inside, held, after, ends, startIn, emit, left, pieces, segmentsFrom, allFinished}
 use Rattle.segments.specs.laws.ListLaws.{list-nothing, list-finished, list-unfinished, segments-after}
 use Rattle.interchange.specs.declared.Found.{Found}
 use Rattle.interchange.specs.declared.Found.the-variants as found
 use Rattle.values.specs.forms.Values.{codeOf}
-use Rattle.interchange.specs.Messages.{tagAt, Kind, head, trailer, last, other, cut, kindOf, Extent, closed, unclosed, startsAt, endsAt, extentBy, extentOf, messagesBy, messagesOf, cutBefore, cutAny, foundOne, foundBy, foundIn, foundFrom}
+use Rattle.interchange.specs.Messages.{tagAt, Kind, head, trailer, last, other, cut, kindOf, Extent, closed, unclosed, startsAt, endsAt, extentBy, extentOf, messagesBy, messagesOf, cutBefore, foundOne, foundBy, foundIn, foundFrom}
 use Rattle.interchange.specs.forms.Kinds.{UNH, UNT, UNZ, kindCode, isEnd}
 use Rattle.interchange.specs.laws.KindLaws.{kind-head, kind-trailer, kind-last, kind-other, kind-at}
 use Rattle.interchange.specs.forms.Found.{endFound}
@@ -145,17 +145,17 @@ pub found-start : (v : Service) (s : List ℕ) (at p : ℕ) → p ≡ pastBreaks
 found-start v s at p e = ap (foundIn v s) (segments-after v s at p e)
 
 pub skip-cut : (p q : List Extent) (a t : ℕ) (l : List Piece) → p ≡ q → foundBy p (finished a t ∷ l) ≡ foundBy q l
-unfolding cutBefore cutAny
+unfolding cutBefore allFinished
 skip-cut [] q a t l h = rw (← h) refl
 skip-cut (m ∷ p) q a t l h = rw (← h) refl
 
 module _ (x : Found) (v : Service) (s : List ℕ) (i : ℕ) (inv : x ≡ foundIn v s (segmentsFrom v s i)) (k : Segment) (c : k ≡ segmentAt v i s) where
   pub find-nothing : k ≡ segment.Nothing → found.Nothing ≡ x
-  unfolding foundIn messagesOf cutAny
+  unfolding foundIn messagesOf allFinished
   find-nothing e = sym (inv ∙ rw (list-nothing v s i k c e))
 
   pub find-cut : k ≡ segment.Unfinished → found.Unfinished ≡ x
-  unfolding foundIn messagesOf cutAny
+  unfolding foundIn messagesOf allFinished
   find-cut e = sym (inv ∙ rw (list-unfinished v s i k c e))
 
   module _ (t n : ℕ) (e : k ≡ segment.Finished t n) (g : ℕ) (q : g ≡ codeOf (tagAt v s i)) where

@@ -10,8 +10,9 @@ use lib.Dec.{eqb}
 use borrow.Author.Tests.{eqb-true}
 use Rattle.service.specs.declared.Service.{Service}
 use Rattle.service.specs.laws.FitLaws.{characters-fit}
+use Rattle.service.specs.Tests.{if}
 use Rattle.segments.specs.declared.Class.the-variants.{Plain}
-use Rattle.segments.specs.Classes.{if, classOf}
+use Rattle.segments.specs.Classes.{classOf}
 use Rattle.segments.specs.forms.Bytes.{pastBreaks}
 use Rattle.segments.specs.laws.FitLaws.{fits-sound}
 use Rattle.segments.specs.laws.ListLaws.{segments-after}
@@ -21,7 +22,7 @@ use Rattle.interchange.specs.declared.Opening.the-variants.{Opens}
 use Rattle.interchange.specs.Messages.{tagAt, messagesOf}
 use Rattle.interchange.specs.Envelope.{firstAt, openingOf, bodyOf}
 use Rattle.interchange.specs.laws.OpenedLaws.{opened}
-use Rattle.interchange.specs.Walk.{Walks}
+use Rattle.interchange.specs.Walk.{Visits}
 use Rattle.interchange.specs.laws.WalkLaws.{settled}
 use Rattle.interchange.specs.laws.WalkTheorems.{header, walks-from}
 
@@ -63,5 +64,5 @@ module _ (s : List ℕ) (v : Service) (first : ℕ) (o : openingOf s ≡ Opens v
       (c .1)
 
   -- walking from the first segment visits exactly the messages, in order, and ends
-  pub walks-first : Walks v s first (messagesOf v s (bodyOf v s first))
+  pub walks-first : Visits v s first (messagesOf v s (bodyOf v s first))
   walks-first = walks-from s v first o first (segments-after v s first first (sym first-settled))

@@ -9,10 +9,10 @@ use lib.ListN.{length, drop}
 use lib.Dec.{eqb, leb}
 use borrow.Author.Tests.{eq-eqb, ne-eqb, le-leb, lt-leb, eqb-true, leb-true}
 use Rattle.service.specs.declared.Service.{Service}
+use Rattle.service.specs.Tests.{if, isEmpty}
 use Rattle.segments.specs.declared.End.{End}
 use Rattle.segments.specs.declared.End.the-variants.{At, None}
 use Rattle.segments.specs.declared.Segment.{Segment}
-use Rattle.segments.specs.Classes.{if}
 use Rattle.segments.specs.forms.Bytes.{endFrom}
 use Rattle.segments.specs.forms.Segments.{segmentBy}
 use Rattle.segments.specs.laws.SegmentsLaws.{segment-by}
@@ -20,24 +20,24 @@ use Rattle.segments.specs.SegmentList.{finished, segmentsFrom}
 use Rattle.segments.specs.laws.SyncLaws.{rest-nothing}
 use Rattle.segments.specs.laws.ListLaws.{listBy, segments-at}
 use Rattle.values.specs.forms.Values.{codeOf}
-use Rattle.interchange.specs.Messages.{tagAt, isNone, head, trailer, last, other, kindOf}
+use Rattle.interchange.specs.Messages.{tagAt, head, trailer, last, other, kindOf}
 use Rattle.interchange.specs.forms.Kinds.{UNH, UNT, UNZ, kindCode, isEnd}
 use Rattle.interchange.specs.laws.TagLaws.{kind-code}
 
 -- no segment is left exactly if no byte is
-some-by : (v : Service) (s : List ℕ) (n : ℕ) (k : End) → isNone (listBy (segmentBy s k) n (length s) (segmentsFrom v s)) ≡ false
+some-by : (v : Service) (s : List ℕ) (n : ℕ) (k : End) → isEmpty (listBy (segmentBy s k) n (length s) (segmentsFrom v s)) ≡ false
 some-by v s n (At t) = refl
 some-by v s n None = refl
 
-pub none-list : (v : Service) (s : List ℕ) (n : ℕ) → isNone (segmentsFrom v s n) ≡ leb (length s) n
+pub none-list : (v : Service) (s : List ℕ) (n : ℕ) → isEmpty (segmentsFrom v s n) ≡ leb (length s) n
 none-list v s n = go (decLt n (length s))
   where
-    go : Dec (n < length s) → isNone (segmentsFrom v s n) ≡ leb (length s) n
+    go : Dec (n < length s) → isEmpty (segmentsFrom v s n) ≡ leb (length s) n
     go (yes h) =
-        ap isNone (segments-at v s n)
+        ap isEmpty (segments-at v s n)
         ∙ rw (← segment-by v s n h (endFrom v false n (drop n s)) refl) (some-by v s n (endFrom v false n (drop n s)))
         ∙ sym (lt-leb (length s) n h)
-    go (no g) = let h : length s ≤ n = omega arith in ap isNone (rest-nothing v s n h) ∙ sym (le-leb (length s) n h)
+    go (no g) = let h : length s ≤ n = omega arith in ap isEmpty (rest-nothing v s n h) ∙ sym (le-leb (length s) n h)
 
 pub end-unz : (s : List ℕ) (g n : ℕ) → g ≡ UNZ → leb (length s) n ≡ isEnd s g n
 unfolding isEnd
@@ -72,7 +72,7 @@ kind-other s g n p q b c e = simp (ne-eqb g UNH p, ne-eqb g UNT q) (not-end s n 
 
 -- the kind of the segment at i
 pub kind-at : (v : Service) (s : List ℕ) (i t n g : ℕ) → g ≡ codeOf (tagAt v s i) → kindOf v s (finished i t) (segmentsFrom v s n) ≡ kindCode g (leb (length s) n)
-kind-at v s i t n g q = kind-code (tagAt v s i) (isNone (segmentsFrom v s n)) ∙ rw (none-list v s n, ← q) refl
+kind-at v s i t n g q = kind-code (tagAt v s i) (isEmpty (segmentsFrom v s n)) ∙ rw (none-list v s n, ← q) refl
 
 -- no segment follows the end UNZ
 list-end : (v : Service) (s : List ℕ) (n : ℕ) (t : Bool) → if t (leb (length s) n) false ≡ true → segmentsFrom v s n ≡ []

@@ -9,9 +9,10 @@ use lib.Seq.{length-take-le, take-all, take-add, drop-drop}
 use lib.Dec.{eqb}
 use borrow.Author.Tests.{eq-eqb, eqb-true, eqb-false}
 use Rattle.service.specs.declared.Service.{Service}
+use Rattle.service.specs.Tests.{if, isEmpty}
 use Rattle.segments.specs.declared.Segment.{Segment}
 use Rattle.segments.specs.declared.Segment.the-variants as segment
-use Rattle.segments.specs.Classes.{if, classOf, isBreak}
+use Rattle.segments.specs.Classes.{classOf, isBreak}
 use Rattle.segments.specs.forms.Segments.{segmentAt}
 use Rattle.segments.specs.laws.SegmentsLaws.{finished-end}
 use Rattle.segments.specs.SegmentList.{Piece, finished, unfinished, gap, mode, ended, emit, pieces, segmentsFrom, segmentsAfter, allFinished}
@@ -23,7 +24,7 @@ use Rattle.segments.specs.laws.ListLaws.{list-finished, list-unfinished, list-n
 use Rattle.parts.specs.Parts.{Tok, lex, valueOf}
 use Rattle.parts.specs.laws.PartLaws.{tokens-in-part}
 use Rattle.values.specs.Text.{text, sameList, says}
-use Rattle.interchange.specs.Messages.{tagAt, isNone, Kind, head, trailer, last, other, cut, kindOf, Extent, endsAt, isClosed, extentBy, extentOf, closedAt, endsClosed}
+use Rattle.interchange.specs.Messages.{tagAt, Kind, head, trailer, last, other, cut, kindOf, Extent, endsAt, isClosed, extentBy, extentOf, closedAt, endsClosed}
 use Rattle.interchange.specs.laws.FindLaws.{extent-starts}
 use Rattle.interchange.specs.Damage.{bytesOf}
 use Rattle.interchange.specs.laws.WalkLaws.{Placed, end, at}
@@ -251,7 +252,7 @@ whole-closed : (v : Service) (s : List ℕ) {l : List Piece} → Placed v s l �
 unfolding extentOf members closedAt
 whole-closed v s end a = refl
 whole-closed v s (at c t l x y w) a =
-    closed-by v s c t a (extentOf v s a l) (members v s l) (whole-closed v s w a) (says (tagAt v s c) "UNH") (says (tagAt v s c) "UNT") (says (tagAt v s c) "UNZ") (isNone l) refl
+    closed-by v s c t a (extentOf v s a l) (members v s l) (whole-closed v s w a) (says (tagAt v s c) "UNH") (says (tagAt v s c) "UNT") (says (tagAt v s c) "UNZ") (isEmpty l) refl
 
 eqb-same : (x y x′ y′ : ℕ) → (x ≡ y → x′ ≡ y′) → (x′ ≡ y′ → x ≡ y) → eqb x y ≡ eqb x′ y′
 eqb-same x y x′ y′ f g = go (eqb x y) (eqb x′ y′) refl refl

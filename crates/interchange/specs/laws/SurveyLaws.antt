@@ -10,11 +10,11 @@ use lib.ListN.{length, drop}
 use lib.Dec.{eqb, leb}
 use borrow.Author.Tests.{eqb-true, eqb-false}
 use Rattle.service.specs.declared.Service.{Service}
+use Rattle.service.specs.Tests.{if}
 use Rattle.segments.specs.declared.End.{End}
 use Rattle.segments.specs.declared.End.the-variants.{At, None}
 use Rattle.segments.specs.declared.Segment.{Segment}
 use Rattle.segments.specs.declared.Segment.the-variants as segment
-use Rattle.segments.specs.Classes.{if}
 use Rattle.segments.specs.forms.Bytes.{endFrom}
 use Rattle.segments.specs.forms.Segments.{segmentBy, segmentAt}
 use Rattle.segments.specs.laws.SegmentsLaws.{segment-by, lies}

@@ -6,11 +6,11 @@ use mathlib.Core.List.{List, [], _∷_, _++_, append-assoc}
 use mathlib.Core.Bool.{Bool, true, false}
 use lib.Dec.{T}
 use Rattle.service.specs.declared.Service.{Service}
-use Rattle.segments.specs.Classes.{if}
+use Rattle.service.specs.Tests.{if, isEmpty}
 use Rattle.segments.specs.SegmentList.{Piece, finished, unfinished, allFinished}
 use Rattle.values.specs.Text.{text, sameList, says}
 use Rattle.values.specs.laws.TextLaws.{same-eq}
-use Rattle.interchange.specs.Messages.{tagAt, startOf, isNone, Kind, head, trailer, last, other, cut, kindBy, kindOf, Extent, closed, startsAt, extentBy, extentOf, messagesBy, messagesOf}
+use Rattle.interchange.specs.Messages.{tagAt, startOf, Kind, head, trailer, last, other, cut, kindBy, kindOf, Extent, closed, startsAt, extentBy, extentOf, messagesBy, messagesOf}
 use Rattle.interchange.specs.laws.FindLaws.{extent-starts}
 use Rattle.interchange.specs.laws.CloseLaws.{Tidy, nil, one, more}
 use Rattle.interchange.specs.Damage.{lastClosed, Before, here, later, Target}
@@ -75,7 +75,7 @@ module _ (v : Service) (s : List ℕ) (a e : ℕ) (after : List Extent) where
         term = t;
         back = l;
         is = ap (λ (i : ℕ). finished i t ∷ l) (sym w);
-        tag = ap (tagAt v s) w ∙ head-tag (tagAt v s c) (isNone l) h;
+        tag = ap (tagAt v s) w ∙ head-tag (tagAt v s c) (isEmpty l) h;
         begins = refl;
         extent = ap (λ (i : ℕ). extentOf v s i l) w ∙ x;
         rest = r;
@@ -148,7 +148,7 @@ module _ (v : Service) (s : List ℕ) (a e : ℕ) where
         rest = l;
         is = refl;
         ends = x;
-        tag = trailer-tag (tagAt v s c) (isNone l) h;
+        tag = trailer-tag (tagAt v s c) (isEmpty l) h;
         same = skips (finished c t) l trailer h refl;
       }
   ending-here (unfinished c u) l h q = absurd (let z : _≡_ {A = ℕ} 0 1 = cc in omega arith)
@@ -171,7 +171,7 @@ with true m l = m ∷ l
 with false m l = l
 
 module _ (v : Service) (s : List ℕ) (a b : ℕ) (r : List Piece) (h : tagAt v s a ≡ text "UNH") where
-  nonempty : (l : List Piece) → isNone (l ++ (finished a b ∷ r)) ≡ false
+  nonempty : (l : List Piece) → isEmpty (l ++ (finished a b ∷ r)) ≡ false
   nonempty [] = refl
   nonempty (p ∷ l) = refl
 
@@ -194,7 +194,7 @@ module _ (v : Service) (s : List ℕ) (a b : ℕ) (r : List Piece) (h : tagAt v 
   open-last [] true i o g = rw h refl
   open-last [] false i o g = absurd (subst T (sym g) tt)
   open-last (finished c t ∷ l) q i o g =
-      open-by c t l (λ (q : Bool) (i : ℕ) (o : Bool) g. open-last l q i o g) (says (tagAt v s c) "UNH") (says (tagAt v s c) "UNT") (says (tagAt v s c) "UNZ") (isNone (l ++ (finished a b ∷ r))) (nonempty l) q i o g
+      open-by c t l (λ (q : Bool) (i : ℕ) (o : Bool) g. open-last l q i o g) (says (tagAt v s c) "UNH") (says (tagAt v s c) "UNT") (says (tagAt v s c) "UNZ") (isEmpty (l ++ (finished a b ∷ r))) (nonempty l) q i o g
   open-last (unfinished c u ∷ l) true i o g = open-last l true i o g
   open-last (unfinished c u ∷ l) false i o g = open-last l false i o g
 

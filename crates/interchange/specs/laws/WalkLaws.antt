@@ -9,23 +9,23 @@ use lib.ListN.{length, drop, drop-of-length-le}
 use lib.Seq.{drop-drop}
 use lib.Dec.{eqb}
 use Rattle.service.specs.declared.Service.{Service}
+use Rattle.service.specs.Tests.{if, isEmpty}
 use Rattle.segments.specs.declared.End.{End}
 use Rattle.segments.specs.declared.End.the-variants.{At, None}
 use Rattle.segments.specs.declared.Segment.{Segment}
 use Rattle.segments.specs.declared.Segment.the-variants as segment
-use Rattle.segments.specs.Classes.{if}
 use Rattle.segments.specs.forms.Bytes.{endFrom, pastBreaks}
 use Rattle.segments.specs.forms.Segments.{segmentBy, segmentAt}
 use Rattle.segments.specs.laws.SegmentsLaws.{segment-nothing, segment-by}
-use Rattle.segments.specs.SegmentList.{Piece, finished, unfinished, segmentsFrom, segmentsAfter}
+use Rattle.segments.specs.SegmentList.{Piece, finished, unfinished, segmentsFrom, segmentsAfter, allFinished}
 use Rattle.segments.specs.laws.SyncLaws.{skipped, rest-nothing}
 use Rattle.segments.specs.laws.ListLaws.{list-nothing, list-finished, list-unfinished, segments-after}
 use Rattle.values.specs.Text.{says}
 use Rattle.interchange.specs.declared.Found.{Found}
 use Rattle.interchange.specs.declared.Found.the-variants as found
-use Rattle.interchange.specs.Messages.{tagAt, isNone, Kind, head, trailer, last, other, cut, kindBy, kindOf, Extent, unclosed, startsAt, endsAt, extentBy, extentOf, messagesBy, messagesOf, cutBefore, cutAny, foundOne, foundBy, foundIn, foundFrom}
+use Rattle.interchange.specs.Messages.{tagAt, Kind, head, trailer, last, other, cut, kindBy, kindOf, Extent, unclosed, startsAt, endsAt, extentBy, extentOf, messagesBy, messagesOf, cutBefore, foundOne, foundBy, foundIn, foundFrom}
 use Rattle.interchange.specs.laws.FindLaws.{extent-starts, skip-cut}
-use Rattle.interchange.specs.Walk.{Walks, done, step, Own, none, also}
+use Rattle.interchange.specs.Walk.{Visits, done, step, Own, none, also}
 
 -- finished segments, each read alike from its own first byte, and what follows it from the byte after its terminator
 pub data Placed (v : Service) (s : List ℕ) : List Piece → Type 0 where
@@ -42,8 +42,8 @@ whole : (m : Extent) (l : List Piece) → cutBefore (endsAt m) l ≡ false → f
 whole m l h = rw h refl
 
 pub record Both (v : Service) (s : List ℕ) (l : List Piece) : Type 0 where
-  pub out : (p : ℕ) → foundFrom v s p ≡ foundIn v s l → Walks v s p (messagesOf v s l)
-  pub ins : (a : ℕ) → Walks v s (endsAt (extentOf v s a l)) (messagesOf v s l)
+  pub out : (p : ℕ) → foundFrom v s p ≡ foundIn v s l → Visits v s p (messagesOf v s l)
+  pub ins : (a : ℕ) → Visits v s (endsAt (extentOf v s a l)) (messagesOf v s l)
 
 never-cut : (g : List ℕ) (e : Bool) → kindBy g e ≡ cut → ⊥
 never-cut g e w = by (says g "UNH") (says g "UNT") (says g "UNZ") e w
@@ -76,28 +76,28 @@ module _ (v : Service) (s : List ℕ) (i t : ℕ) (l : List Piece) where
   by-kind h g w b head e =
       let hm = messages-by head e in
       let fh = found-head w hm in record {
-        out = λ (p : ℕ) q. subst (Walks v s p) (sym hm) (step p (extentOf v s i l) (messagesOf v s l) (q ∙ fh) (b .ins i));
+        out = λ (p : ℕ) q. subst (Visits v s p) (sym hm) (step p (extentOf v s i l) (messagesOf v s l) (q ∙ fh) (b .ins i));
         ins = λ (a : ℕ). rw (extent-by a head e, hm) (step i (extentOf v s i l) (messagesOf v s l) (ap (foundIn v s) h ∙ fh) (b .ins i));
       }
   by-kind h g w b trailer e =
       let hm = messages-by trailer e in
       let fe = found-skip hm in record {
-        out = λ (p : ℕ) q. subst (Walks v s p) (sym hm) (b .out p (q ∙ fe));
+        out = λ (p : ℕ) q. subst (Visits v s p) (sym hm) (b .out p (q ∙ fe));
         ins = λ (a : ℕ). rw (extent-by a trailer e, hm) (b .out (t + 1) (ap (foundIn v s) g));
       }
   by-kind h g w b last e =
       let hm = messages-by last e in
       let fe = found-skip hm in record {
-        out = λ (p : ℕ) q. subst (Walks v s p) (sym hm) (b .out p (q ∙ fe));
+        out = λ (p : ℕ) q. subst (Visits v s p) (sym hm) (b .out p (q ∙ fe));
         ins = λ (a : ℕ). rw (extent-by a last e, hm) (b .out i (ap (foundIn v s) h ∙ fe));
       }
   by-kind h g w b other e =
       let hm = messages-by other e in
       let fe = found-skip hm in record {
-        out = λ (p : ℕ) q. subst (Walks v s p) (sym hm) (b .out p (q ∙ fe));
+        out = λ (p : ℕ) q. subst (Visits v s p) (sym hm) (b .out p (q ∙ fe));
         ins = λ (a : ℕ). rw (extent-by a other e, hm) (b .ins a);
       }
-  by-kind h g w b cut e = absurd (never-cut (tagAt v s i) (isNone l) e)
+  by-kind h g w b cut e = absurd (never-cut (tagAt v s i) (isEmpty l) e)
 
   own-by : segmentsAfter v s i ≡ finished i t ∷ l → Placed v s l → Own v s (messagesOf v s l) → (k : Kind) → kindOf v s (finished i t) l ≡ k → startsAt (extentOf v s i l) ≡ i → Own v s (messagesOf v s (finished i t ∷ l))
   own-by h w o head e q =
@@ -106,17 +106,17 @@ module _ (v : Service) (s : List ℕ) (i t : ℕ) (l : List Piece) where
   own-by h w o trailer e q = subst (Own v s) (sym (messages-by trailer e)) o
   own-by h w o last e q = subst (Own v s) (sym (messages-by last e)) o
   own-by h w o other e q = subst (Own v s) (sym (messages-by other e)) o
-  own-by h w o cut e q = absurd (never-cut (tagAt v s i) (isNone l) e)
+  own-by h w o cut e q = absurd (never-cut (tagAt v s i) (isEmpty l) e)
 
 module _ (v : Service) (s : List ℕ) where
   at-end : foundFrom v s (length s) ≡ found.Nothing
-  unfolding foundIn messagesOf cutAny pastBreaks
+  unfolding foundIn messagesOf allFinished pastBreaks
   at-end =
       let h : length s ≤ length s = omega arith in
       ap (foundIn v s) (segments-after v s (length s) (length s) (sym (ap (pastBreaks (length s)) (drop-of-length-le s h))) ∙ rest-nothing v s (length s) h)
 
   both-end : Both v s []
-  unfolding foundIn messagesOf cutAny extentOf
+  unfolding foundIn messagesOf allFinished extentOf
   both-end = record {
     out = λ (p : ℕ) q. done p q;
     ins = λ (a : ℕ). done (length s) at-end;
@@ -173,14 +173,14 @@ next-is v s i k c t n e = go (decLt i (length s))
         let q = segment-nothing v s i h ∙ sym c ∙ e in
         absurd (let z : _≡_ {A = ℕ} 0 1 = cc in omega arith)
 
-pub cut-here : (a e : ℕ) (l : List Piece) → l ≡ unfinished a e ∷ [] → cutAny l ≡ false → ⊥
-unfolding cutAny
-cut-here a e l q w = let x : true ≡ false = sym (ap cutAny q) ∙ w in let z : _≡_ {A = ℕ} 0 1 = cc in omega arith
+pub cut-here : (a e : ℕ) (l : List Piece) → l ≡ unfinished a e ∷ [] → allFinished l ≡ true → ⊥
+unfolding allFinished
+cut-here a e l q w = let x : false ≡ true = sym (ap allFinished q) ∙ w in let z : _≡_ {A = ℕ} 0 1 = cc in omega arith
 
 -- by the segment at i
-placed-by : (v : Service) (s : List ℕ) (l : List Piece) → ((n : ℕ) (m : List Piece) → segmentsFrom v s n ≡ m → pastBreaks n (drop n s) ≡ n → cutAny m ≡ false → (p : Piece) → l ≡ p ∷ m → Placed v s m)
-    → (i : ℕ) → segmentsFrom v s i ≡ l → pastBreaks i (drop i s) ≡ i → cutAny l ≡ false → (k : Segment) → k ≡ segmentAt v i s → Placed v s l
-unfolding cutAny
+placed-by : (v : Service) (s : List ℕ) (l : List Piece) → ((n : ℕ) (m : List Piece) → segmentsFrom v s n ≡ m → pastBreaks n (drop n s) ≡ n → allFinished m ≡ true → (p : Piece) → l ≡ p ∷ m → Placed v s m)
+    → (i : ℕ) → segmentsFrom v s i ≡ l → pastBreaks i (drop i s) ≡ i → allFinished l ≡ true → (k : Segment) → k ≡ segmentAt v i s → Placed v s l
+unfolding allFinished
 placed-by v s l ih i e q w (segment.Finished t n) c =
     let f = list-finished v s i (segment.Finished t n) c t n refl in
     let g : l ≡ finished i t ∷ segmentsFrom v s n = sym e ∙ f in
@@ -188,14 +188,14 @@ placed-by v s l ih i e q w (segment.Finished t n) c =
     let y : segmentsAfter v s i ≡ finished i t ∷ segmentsFrom v s n = segments-after v s i i (sym q) ∙ f in
     subst (Placed v s) (sym g)
     (at i t (segmentsFrom v s n) y (segments-after v s (t + 1) n x)
-    (ih n (segmentsFrom v s n) refl (settled v s (t + 1) n x) (sym (ap cutAny g) ∙ w) (finished i t) g))
+    (ih n (segmentsFrom v s n) refl (settled v s (t + 1) n x) (sym (ap allFinished g) ∙ w) (finished i t) g))
 placed-by v s l ih i e q w segment.Unfinished c = absurd (cut-here i (length s) l (sym e ∙ list-unfinished v s i segment.Unfinished c refl) w)
 placed-by v s l ih i e q w segment.Nothing c = subst (Placed v s) (sym (list-nothing v s i segment.Nothing c refl) ∙ e) end
 
 tail-is : (v : Service) (s : List ℕ) (p q : Piece) (l m : List Piece) → p ∷ l ≡ q ∷ m → Placed v s l → Placed v s m
 tail-is v s p q l m e w = let x : l ≡ m = cc in subst (Placed v s) x w
 
-pub placed : (v : Service) (s : List ℕ) (l : List Piece) (i : ℕ) → segmentsFrom v s i ≡ l → pastBreaks i (drop i s) ≡ i → cutAny l ≡ false → Placed v s l
+pub placed : (v : Service) (s : List ℕ) (l : List Piece) (i : ℕ) → segmentsFrom v s i ≡ l → pastBreaks i (drop i s) ≡ i → allFinished l ≡ true → Placed v s l
 placed v s [] i e q w = end
 placed v s (p ∷ l) i e q w =
-    placed-by v s (p ∷ l) (λ (n : ℕ) (m : List Piece) f y z (r : Piece) x. let u : m ≡ l = cc in subst (Placed v s) (sym u) (placed v s l n (f ∙ u) y (sym (ap cutAny u) ∙ z))) i e q w (segmentAt v i s) refl
+    placed-by v s (p ∷ l) (λ (n : ℕ) (m : List Piece) f y z (r : Piece) x. let u : m ≡ l = cc in subst (Placed v s) (sym u) (placed v s l n (f ∙ u) y (sym (ap allFinished u) ∙ z))) i e q w (segmentAt v i s) refl

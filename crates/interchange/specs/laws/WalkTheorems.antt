@@ -11,24 +11,24 @@ use Rattle.segments.specs.declared.Segment.{Segment}
 use Rattle.segments.specs.declared.Segment.the-variants as segment
 use Rattle.segments.specs.forms.Bytes.{pastBreaks}
 use Rattle.segments.specs.forms.Segments.{segmentAt}
-use Rattle.segments.specs.SegmentList.{Piece, finished, segmentsFrom, segmentsAfter}
+use Rattle.segments.specs.SegmentList.{Piece, finished, segmentsFrom, segmentsAfter, allFinished}
 use Rattle.segments.specs.laws.ListLaws.{list-nothing, list-finished, list-unfinished, segments-after}
 use Rattle.values.specs.Text.{text, sameList, says}
 use Rattle.values.specs.laws.TextLaws.{same-eq}
 use Rattle.interchange.specs.declared.Opening.the-variants.{Opens}
 use Rattle.interchange.specs.declared.Closing.{Closing}
-use Rattle.interchange.specs.Messages.{tagAt, messagesOf, cutAny, foundIn, foundFrom}
+use Rattle.interchange.specs.Messages.{tagAt, messagesOf, foundIn, foundFrom}
 use Rattle.interchange.specs.Envelope.{isHeader, headed, isUnz, lastUnz, openingOf, afterFirst, bodyOf, closedBy, closingBy, closingOf}
 use Rattle.interchange.specs.laws.OpenedLaws.{opened}
 use Rattle.interchange.specs.laws.CloseLaws.{Tidy, nil, one, more, tidy-pieces}
 use Rattle.interchange.specs.forms.Survey.{pastAt}
 use Rattle.interchange.specs.laws.SurveyLaws.{past-finished}
-use Rattle.interchange.specs.Walk.{Walks, Own}
+use Rattle.interchange.specs.Walk.{Visits, Own}
 use Rattle.interchange.specs.laws.WalkLaws.{Placed, both, own, placed, settled, next-is, cut-here, found-skip}
 
 -- where the last segment is a finished UNZ, no segment is unfinished
-no-cut : (v : Service) (s : List ℕ) (b : Bool) {l : List Piece} → Tidy l → lastUnz v s b l ≡ true → cutAny l ≡ false
-unfolding lastUnz cutAny
+no-cut : (v : Service) (s : List ℕ) (b : Bool) {l : List Piece} → Tidy l → lastUnz v s b l ≡ true → allFinished l ≡ true
+unfolding lastUnz allFinished
 no-cut v s b nil e = refl
 no-cut v s b (one a u) e = absurd (subst T (sym e) tt)
 no-cut v s b (more a t l w) e = no-cut v s (isUnz v s (finished a t)) w e
@@ -48,8 +48,8 @@ header-tag : (v : Service) (s : List ℕ) (i t : ℕ) (l : List Piece) → heade
 unfolding isHeader
 header-tag v s i t l e = same-eq (tagAt v s i) (text "UNB") (and-left (says (tagAt v s i) "UNB") _ e)
 
-header-by : (v : Service) (s : List ℕ) (first : ℕ) → headed v s (segmentsFrom v s first) ≡ true → cutAny (segmentsFrom v s first) ≡ false → (k : Segment) → k ≡ segmentAt v first s → Header v s first
-unfolding cutAny
+header-by : (v : Service) (s : List ℕ) (first : ℕ) → headed v s (segmentsFrom v s first) ≡ true → allFinished (segmentsFrom v s first) ≡ true → (k : Segment) → k ≡ segmentAt v first s → Header v s first
+unfolding allFinished
 header-by v s first h w (segment.Finished t n) c =
     let f = list-finished v s first (segment.Finished t n) c t n refl in
     let x = next-is v s first (segment.Finished t n) c t n refl in record {
@@ -60,7 +60,7 @@ header-by v s first h w (segment.Finished t n) c =
       past = past-finished v s first (segment.Finished t n) c t n refl;
       rests = settled v s (t + 1) n x;
       tag = header-tag v s first t (segmentsFrom v s n) (ap (headed v s) (sym f) ∙ h);
-      body = placed v s (segmentsFrom v s n) n refl (settled v s (t + 1) n x) (ap cutAny (sym f) ∙ w);
+      body = placed v s (segmentsFrom v s n) n refl (settled v s (t + 1) n x) (ap allFinished (sym f) ∙ w);
     }
 header-by v s first h w segment.Unfinished c = absurd (cut-here first (length s) (segmentsFrom v s first) (list-unfinished v s first segment.Unfinished c refl) w)
 header-by v s first h w segment.Nothing c = absurd (subst T (sym (ap (headed v s) (sym (list-nothing v s first segment.Nothing c refl)) ∙ h)) tt)
@@ -79,16 +79,16 @@ module _ (s : List ℕ) (v : Service) (first : ℕ) (o : openingOf s ≡ Opens v
   body-is = ap afterFirst (sym (header .here))
 
   -- walking on from the end of the UNB visits exactly the messages, in order, and ends
-  pub walks-past : Walks v s (pastAt v s first) (messagesOf v s (bodyOf v s first))
+  pub walks-past : Visits v s (pastAt v s first) (messagesOf v s (bodyOf v s first))
   walks-past =
-      subst (λ (l : List Piece). Walks v s (pastAt v s first) (messagesOf v s l)) body-is
+      subst (λ (l : List Piece). Visits v s (pastAt v s first) (messagesOf v s l)) body-is
       (both v s (header .body) .out (pastAt v s first)
       (ap (foundFrom v s) (sym (header .past)) ∙ ap (foundIn v s) (segments-after v s (header .next) (header .next) (sym (header .rests)))))
 
   -- and so does walking from any position from which the UNB is read first
-  pub walks-from : (p : ℕ) → segmentsAfter v s p ≡ segmentsFrom v s first → Walks v s p (messagesOf v s (bodyOf v s first))
+  pub walks-from : (p : ℕ) → segmentsAfter v s p ≡ segmentsFrom v s first → Visits v s p (messagesOf v s (bodyOf v s first))
   walks-from p e =
-      subst (λ (l : List Piece). Walks v s p (messagesOf v s l)) body-is
+      subst (λ (l : List Piece). Visits v s p (messagesOf v s l)) body-is
       (both v s (header .body) .out p
       (ap (foundIn v s) (e ∙ header .here) ∙ found-skip v s first (header .term) (segmentsFrom v s (header .next)) (unb-other v s first (header .term) (segmentsFrom v s (header .next)) (header .tag))))
 

@@ -6,21 +6,21 @@ use mathlib.Core.List.{List, [], _∷_}
 use mathlib.Core.Bool.{Bool, true, false}
 use lib.ListN.{length, drop}
 use Rattle.service.specs.declared.Service.{Service}
+use Rattle.service.specs.Tests.{if}
 use Rattle.segments.specs.declared.Segment.{Segment}
 use Rattle.segments.specs.declared.Segment.the-variants as segment
-use Rattle.segments.specs.Classes.{if}
 use Rattle.segments.specs.forms.Bytes.{pastBreaks}
 use Rattle.segments.specs.forms.Segments.{segmentAt}
 use Rattle.segments.specs.laws.SegmentsLaws.{lies}
 use Rattle.segments.specs.laws.SyncLaws.{skipped}
-use Rattle.segments.specs.SegmentList.{Piece, finished, unfinished, segmentsFrom}
+use Rattle.segments.specs.SegmentList.{Piece, finished, unfinished, segmentsFrom, allFinished}
 use Rattle.segments.specs.laws.ListLaws.{list-nothing, list-finished, list-unfinished}
 use Rattle.interchange.specs.declared.Opening.{Opening}
 use Rattle.interchange.specs.declared.Opening.the-variants.{Opens, Refused}
 use Rattle.interchange.specs.declared.Closing.{Closing}
 use Rattle.interchange.specs.declared.Found.{Found}
 use Rattle.interchange.specs.declared.Found.the-variants as found
-use Rattle.interchange.specs.Messages.{Kind, head, trailer, last, other, cut, kindOf, Extent, startsAt, endsAt, extentBy, extentOf, messagesBy, messagesOf, stays, strayBy, straysOf, cutBefore, cutAny, foundBy, foundIn, foundFrom}
+use Rattle.interchange.specs.Messages.{Kind, head, trailer, last, other, cut, kindOf, Extent, startsAt, endsAt, extentBy, extentOf, messagesBy, messagesOf, stays, strayBy, straysOf, cutBefore, foundBy, foundIn, foundFrom}
 use Rattle.interchange.specs.Envelope.{openingOf, afterFirst, closedBy, closingBy, closingOf}
 use Rattle.interchange.specs.laws.FindLaws.{extent-starts, found-start, unfinished-within}
 use Rattle.interchange.specs.laws.OpenedLaws.{opened}
@@ -86,9 +86,9 @@ module _ (v : Service) (s : List ℕ) where
   one-by lo a m e h w true = broken
   one-by lo a m e h w false = let p = w .order in part (startsAt m) (endsAt m) (record { after = omega arith; order = omega arith; within = w .within })
 
-  none-by : (lo : ℕ) (b : Bool) → Within s lo (if b found.Unfinished found.Nothing)
-  none-by lo true = broken
-  none-by lo false = none
+  none-by : (lo : ℕ) (b : Bool) → Within s lo (if b found.Nothing found.Unfinished)
+  none-by lo true = none
+  none-by lo false = broken
 
   found-by : (k : Kind) (lo c on t : ℕ) (l x : List Piece) → lo ≤ c → c ≤ t → t < on → on ≤ length s → Row (length s) on l → Within s on (foundBy (messagesOf v s l) x)
       → Within s lo (foundBy (messagesBy k (extentOf v s c l) (messagesOf v s l)) x)
@@ -100,9 +100,9 @@ module _ (v : Service) (s : List ℕ) where
 
   found-row : (x : List Piece) {lo : ℕ} {l : List Piece} → Row (length s) lo l → Within s lo (foundBy (messagesOf v s l) x)
   unfolding messagesOf
-  found-row x (nil lo) = none-by lo (cutAny x)
+  found-row x (nil lo) = none-by lo (allFinished x)
   found-row x (more lo c t on l p q r o w) = found-by (kindOf v s (finished c t) l) lo c on t l x p q r o w (found-row x w)
-  found-row x (cut-off lo c e p q) = none-by lo (cutAny x)
+  found-row x (cut-off lo c e p q) = none-by lo (allFinished x)
 
   -- from any position
   pub found-within : (at : ℕ) → Within s at (foundFrom v s at)

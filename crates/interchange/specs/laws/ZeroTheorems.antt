@@ -21,7 +21,7 @@ use Rattle.interchange.specs.declared.Opening.the-variants.{Opens}
 use Rattle.interchange.specs.Messages.{tagAt, messagesOf, foundIn, foundFrom}
 use Rattle.interchange.specs.Envelope.{firstAt, openingOf, bodyOf}
 use Rattle.interchange.specs.laws.OpenedLaws.{opened}
-use Rattle.interchange.specs.Walk.{allMessages, Walks, Own}
+use Rattle.interchange.specs.Walk.{allMessages, Visits, Own}
 use Rattle.interchange.specs.laws.WalkLaws.{both, found-skip}
 use Rattle.interchange.specs.laws.WalkTheorems.{header, body-is, unb-other, owns}
 use Rattle.interchange.specs.laws.FirstLaws.{first-settled}
@@ -76,10 +76,10 @@ module _ (s : List ℕ) (v : Service) (first : ℕ) (o : openingOf s ≡ Opens v
       ∙ ap (messagesOf v s) (body-is s v first o)
 
   -- walking from position 0 visits exactly the messages, in order, and ends
-  pub walks-zero : Walks v s 0 (messagesOf v s (bodyOf v s first))
+  pub walks-zero : Visits v s 0 (messagesOf v s (bodyOf v s first))
   walks-zero =
       let h = header s v first o in
-      subst (λ (l : List Piece). Walks v s 0 (messagesOf v s l)) (body-is s v first o)
+      subst (λ (l : List Piece). Visits v s 0 (messagesOf v s l)) (body-is s v first o)
       (both v s (h .body) .out 0
       (alike .finds
       ∙ ap (foundIn v s) (h .here)

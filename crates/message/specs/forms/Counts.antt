@@ -1,7 +1,7 @@
 -- Counts that stop, at two or at the end of 64 bits, and whether one came.
 use Prim.Native.Nat.{ℕ, _+_, min}
 use mathlib.Core.Bool.{Bool, true}
-use Rattle.segments.specs.Classes.{if}
+use Rattle.service.specs.Tests.{if}
 use Rattle.message.specs.Segs.{Seg}
 
 -- where a count of 64 bits stops; no number that a value writes is as high (`writes-capped` of ValueLaws)

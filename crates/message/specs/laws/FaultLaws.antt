@@ -7,7 +7,7 @@ use mathlib.Core.List.{List, [], _∷_, _++_}
 use mathlib.Core.Bool.{Bool, true, false}
 use lib.Dec.{ltb, leb}
 use borrow.Author.Tests.{lt-ltb, le-ltb, le-leb, lt-leb}
-use Rattle.segments.specs.Classes.{if}
+use Rattle.service.specs.Tests.{if}
 use Rattle.faults.specs.declared.First.{First}
 use Rattle.faults.specs.declared.First.the-variants as first
 use Rattle.faults.specs.declared.Fault.{Fault}

@@ -5,7 +5,7 @@ use mathlib.Core.List.{List, [], _∷_}
 use mathlib.Core.Bool.{Bool, not, _&&_}
 use lib.ListN.{getD}
 use lib.Dec.{eqb}
-use Rattle.segments.specs.Classes.{if}
+use Rattle.service.specs.Tests.{if}
 use Rattle.values.specs.forms.Values.{codeFrom, letters}
 use Rattle.chart.specs.forms.Columns.{tagOf, parentOf}
 use Rattle.table.specs.Entries.{linesFrom, within}

@@ -7,12 +7,12 @@ use mathlib.Core.List.{List, [], _∷_}
 use mathlib.Core.Bool.{Bool, true, false}
 use lib.Dec.{eqb, ltb}
 use borrow.Author.Tests.{eq-eqb, ne-eqb}
-use Rattle.segments.specs.Classes.{if}
+use Rattle.service.specs.Tests.{if, isEmpty}
 use Rattle.values.specs.declared.Number.{Number}
 use Rattle.values.specs.declared.Number.the-variants as number
 use Rattle.values.specs.forms.Values.{codeFrom, codeOf, numberOf, isNumber}
 use Rattle.values.specs.laws.NumberLaws.{number-of}
-use Rattle.message.specs.Rules.{writes, isEmpty}
+use Rattle.message.specs.Rules.{writes}
 use Rattle.message.specs.forms.Counts.{most}
 
 -- ---- empty

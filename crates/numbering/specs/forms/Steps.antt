@@ -2,7 +2,7 @@
 use Prim.Native.Nat.{ℕ, _+_, min}
 use mathlib.Core.List.{List}
 use mathlib.Core.Bool.{Bool, true, false, not, _&&_, _||_}
-use Rattle.segments.specs.Classes.{if}
+use Rattle.service.specs.Tests.{if}
 use Rattle.faults.specs.declared.First.{First}
 use Rattle.faults.specs.declared.First.the-variants as first
 use Rattle.faults.specs.Firsts.{lesser, placeUnless}

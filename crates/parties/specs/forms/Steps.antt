@@ -3,13 +3,13 @@ use Prim.Native.Nat.{ℕ}
 use mathlib.Core.List.{List}
 use mathlib.Core.Bool.{Bool, true, false, not, _&&_, _||_}
 use lib.Dec.{eqb}
-use Rattle.segments.specs.Classes.{if, alike}
+use Rattle.service.specs.Tests.{if, isEmpty, alike}
 use Rattle.faults.specs.declared.First.{First}
 use Rattle.faults.specs.declared.First.the-variants as first
 use Rattle.faults.specs.Firsts.{lesser, placeUnless}
 use Rattle.values.specs.Text.{says}
 use Rattle.message.specs.Segs.{Seg, LIN, FII6, NAD7, SEQ, FII12, NAD13, is}
-use Rattle.message.specs.Rules.{isEmpty, named, party, orderHolds, paymentHolds}
+use Rattle.message.specs.Rules.{named, party, orderHolds, paymentHolds}
 use Rattle.message.specs.forms.Run.{Level, levelStep, close}
 use Rattle.message.specs.forms.Counts.{moreIf, capStep, someStep}
 use Rattle.parties.specs.declared.LevelB.{LevelB}

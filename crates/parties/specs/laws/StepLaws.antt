@@ -6,8 +6,8 @@ use mathlib.Core.List.{List}
 use mathlib.Core.Bool.{Bool, true, false, not, _&&_, _||_}
 use lib.Dec.{eqb, leb}
 use borrow.Author.Tests.{eq-eqb, ne-eqb}
-use Rattle.segments.specs.Classes.{if, alike}
 use Rattle.service.specs.declared.Service.{Service}
+use Rattle.service.specs.Tests.{if, isEmpty, alike}
 use Rattle.values.specs.Numbers.{valueIn}
 use Rattle.values.specs.forms.Values.{codeFrom, codeOf}
 use Rattle.values.specs.laws.TextLaws.{says-code}
@@ -17,7 +17,7 @@ use Rattle.faults.specs.Firsts.{lesser, placeUnless}
 use Rattle.faults.specs.laws.FirstsLaws.{lesser-last}
 use Rattle.values.specs.Text.{text, says}
 use Rattle.message.specs.Segs.{segAt}
-use Rattle.message.specs.Rules.{isEmpty, orderHolds, paymentHolds}
+use Rattle.message.specs.Rules.{orderHolds, paymentHolds}
 use Rattle.message.specs.forms.Run.{levelStep, close}
 use Rattle.message.specs.forms.Counts.{moreIf, capStep, someStep}
 use Rattle.message.specs.laws.ValueLaws.{empty-code}

@@ -5,7 +5,8 @@ use mathlib.Core.List.{List, [], _∷_, _++_, map, append-assoc}
 use mathlib.Core.Bool.{false}
 use lib.ListN.{drop}
 use Rattle.service.specs.declared.Service.{Service}
-use Rattle.parts.specs.Parts.{Tok, byte, comp, elem, lex, elements, onFirst, onValue, strangeIn, isNil}
+use Rattle.service.specs.Tests.{isEmpty}
+use Rattle.parts.specs.Parts.{Tok, byte, comp, elem, lex, elements, onFirst, onValue, strangeIn}
 use Rattle.parts.specs.Written.{strangeOf, bytesOf}
 use Rattle.parts.specs.laws.ReleaseLaws.{strange-values}
 use Rattle.parts.specs.Trimmed.{ahead, trim, Values, trimmed, valuesAt}
@@ -80,8 +81,8 @@ same-bytes t t′ q =
     tokens-bytes t ∙ sym (trimmed-bytes (elements t)) ∙ ap bytesIn q ∙ trimmed-bytes (elements t′) ∙ sym (tokens-bytes t′)
 
 -- number 10: whether a value byte is outside 0x20..0x7E and 0xA0..0xFF is the same in segments with the same values
-pub same-strange : (v : Service) (s : List ℕ) (v′ : Service) (s′ : List ℕ) (i i′ : ℕ) → valuesAt v s i ≡ valuesAt v′ s′ i′ → isNil (strangeIn v s i) ≡ isNil (strangeIn v′ s′ i′)
+pub same-strange : (v : Service) (s : List ℕ) (v′ : Service) (s′ : List ℕ) (i i′ : ℕ) → valuesAt v s i ≡ valuesAt v′ s′ i′ → isEmpty (strangeIn v s i) ≡ isEmpty (strangeIn v′ s′ i′)
 same-strange v s v′ s′ i i′ q =
     strange-values v false i (drop i s)
-    ∙ ap (λ (l : List ℕ). isNil (strangeOf l)) (same-bytes (lex v false (drop i s)) (lex v′ false (drop i′ s′)) q)
+    ∙ ap (λ (l : List ℕ). isEmpty (strangeOf l)) (same-bytes (lex v false (drop i s)) (lex v′ false (drop i′ s′)) q)
     ∙ sym (strange-values v′ false i′ (drop i′ s′))

@@ -10,6 +10,7 @@ use lib.Dec.{T, leb}
 use borrow.Author.Tests.{leb-false}
 use Rattle.service.specs.declared.Service.{Service}
 use Rattle.service.specs.Service.{within, Fits}
+use Rattle.service.specs.Tests.{isEmpty}
 use Rattle.segments.specs.declared.Class.{Class}
 use Rattle.segments.specs.declared.Class.the-variants.{Plain, Comp, Elem, Rel, Term}
 use Rattle.segments.specs.declared.End.the-variants.{At, None}
@@ -17,7 +18,7 @@ use Rattle.segments.specs.Classes.{classOf}
 use Rattle.segments.specs.forms.Bytes.{endBy, endFrom}
 use Rattle.segments.specs.laws.PartLaws.{end-low}
 use Rattle.segments.specs.laws.FitLaws.{plain-outside}
-use Rattle.parts.specs.Parts.{Tok, byte, comp, elem, lex, lexBy, elements, valueAt, isStrange, keep, strangeBy, strangeFrom, isNil}
+use Rattle.parts.specs.Parts.{Tok, byte, comp, elem, lex, lexBy, elements, valueAt, isStrange, keep, strangeBy, strangeFrom}
 use Rattle.parts.specs.Written.{Writes, none, as-is, behind, component, element, strangeOf, strangePlaces, bytesOf}
 
 -- ---- a released byte is that byte
@@ -116,13 +117,13 @@ module _ (v : Service) (f : Fits v) where
   strange-unfinished false i (b ∷ l) e = open-by i b l (λ (q : Bool) w. strange-unfinished q (suc i) l w) (classOf v b) refl e
 
 -- ---- whether a segment has one depends on its values alone
-nil-keep : (x : Bool) (i b : ℕ) (l m : List ℕ) → isNil l ≡ isNil m → isNil (keep x i l) ≡ isNil (keep x b m)
+nil-keep : (x : Bool) (i b : ℕ) (l m : List ℕ) → isEmpty l ≡ isEmpty m → isEmpty (keep x i l) ≡ isEmpty (keep x b m)
 nil-keep true i b l m e = refl
 nil-keep false i b l m e = e
 
-nil-by : (v : Service) (i b : ℕ) (l : List ℕ) → ((q : Bool) → isNil (strangeFrom v q (suc i) l) ≡ isNil (strangeOf (bytesOf (lex v q l)))) → (k : Class)
-    → isNil (strangeBy k (keep (isStrange b) i (strangeFrom v false (suc i) l)) (strangeFrom v true (suc i) l) (strangeFrom v false (suc i) l))
-    ≡ isNil (strangeOf (bytesOf (lexBy k b (lex v true l) (lex v false l))))
+nil-by : (v : Service) (i b : ℕ) (l : List ℕ) → ((q : Bool) → isEmpty (strangeFrom v q (suc i) l) ≡ isEmpty (strangeOf (bytesOf (lex v q l)))) → (k : Class)
+    → isEmpty (strangeBy k (keep (isStrange b) i (strangeFrom v false (suc i) l)) (strangeFrom v true (suc i) l) (strangeFrom v false (suc i) l))
+    ≡ isEmpty (strangeOf (bytesOf (lexBy k b (lex v true l) (lex v false l))))
 unfolding strangeOf bytesOf
 nil-by v i b l ih Plain = nil-keep (isStrange b) i b (strangeFrom v false (suc i) l) (strangeOf (bytesOf (lex v false l))) (ih false)
 nil-by v i b l ih Comp = ih false
@@ -130,7 +131,7 @@ nil-by v i b l ih Elem = ih false
 nil-by v i b l ih Rel = ih true
 nil-by v i b l ih Term = refl
 
-pub strange-values : (v : Service) (r : Bool) (i : ℕ) (l : List ℕ) → isNil (strangeFrom v r i l) ≡ isNil (strangeOf (bytesOf (lex v r l)))
+pub strange-values : (v : Service) (r : Bool) (i : ℕ) (l : List ℕ) → isEmpty (strangeFrom v r i l) ≡ isEmpty (strangeOf (bytesOf (lex v r l)))
 unfolding strangeFrom lex bytesOf strangeOf
 strange-values v r i [] = refl
 strange-values v true i (b ∷ l) = nil-keep (isStrange b) i b (strangeFrom v false (suc i) l) (strangeOf (bytesOf (lex v false l))) (strange-values v false (suc i) l)

@@ -6,9 +6,9 @@ use mathlib.Core.Bool.{Bool, false, _&&_}
 use lib.ListN.{length}
 use lib.Dec.{eqb, ltb}
 use Rattle.service.specs.declared.Service.{Service}
+use Rattle.service.specs.Tests.{if}
 use Rattle.segments.specs.declared.Segment.{Segment}
 use Rattle.segments.specs.declared.Segment.the-variants.{Finished, Unfinished, Nothing}
-use Rattle.segments.specs.Classes.{if}
 use Rattle.segments.specs.forms.Segments.{segmentAt}
 use Rattle.segments.specs.SegmentList.{segmentsFrom, startAt}
 use Rattle.values.specs.Numbers.{valueFrom, valueIn}

@@ -12,7 +12,7 @@ use borrow.Author.Tests.{ne-eqb, le-leb, lt-leb, le-ltb, lt-ltb, leb-true}
 use Rattle.service.specs.declared.Service.{Service}
 use Rattle.service.specs.Service.{Fits, fitting}
 use Rattle.service.specs.laws.FitLaws.{fits-if}
-use Rattle.segments.specs.Classes.{if}
+use Rattle.service.specs.Tests.{if}
 use Rattle.segments.specs.SegmentList.{segmentsFrom}
 use Rattle.segments.specs.laws.StartsLaws.{starts-within}
 use Rattle.parts.specs.Parts.{strangeIn}

@@ -10,7 +10,6 @@ use borrow.Author.Tests.{lt-ltb, le-ltb, lt-leb, le-leb}
 use Rattle.service.specs.declared.Service.{Service}
 use Rattle.segments.specs.declared.Segment.{Segment}
 use Rattle.segments.specs.declared.Segment.the-variants.{Finished, Unfinished, Nothing}
-use Rattle.segments.specs.Classes.{if}
 use Rattle.segments.specs.forms.Segments.{segmentAt}
 use Rattle.segments.specs.SegmentList.{Piece, startOf, segmentsFrom, startAt}
 use Rattle.parts.specs.Parts.{lex, valueOf}

@@ -8,9 +8,9 @@ use mathlib.Core.Bool.{Bool, true, false, not}
 use lib.ListN.{length, getD}
 use lib.Dec.{T, eqb, ltb}
 use borrow.Author.Tests.{eqb-true, ltb-true, eq-eqb, ne-eqb}
-use Rattle.segments.specs.Classes.{if, alike}
 use Rattle.service.specs.declared.Service.{Service}
-use Rattle.chart.specs.forms.Machine.{pick, rowsBy}
+use Rattle.service.specs.Tests.{if, alike}
+use Rattle.chart.specs.forms.Machine.{rowsBy}
 use Rattle.table.specs.Entries.{linesFrom, within, text}
 use Rattle.chart.specs.forms.Columns.{tagOf, firstOf}
 use Rattle.chart.specs.Chart.{Placement}
@@ -60,7 +60,7 @@ unfolding PAYMUL table linesFrom
 rows-many = refl
 
 module _ (w g : ℕ) (test : T (all-to size (λ r. alike (eqb (firstOf PAYMUL r) w) (eqb (tagOf PAYMUL r) g)))) (row : eqb size w ≡ false) (tag : eqb (tagOf PAYMUL size) g ≡ false) where
-  found-by : (f r t : ℕ) → r < length PAYMUL → (b : Bool) → eqb t (tagOf PAYMUL r) ≡ b → (x : ℕ) → (x ≡ length PAYMUL) ⊎ (eqb x w ≡ eqb t g) → (pick b (firstOf PAYMUL r) x ≡ length PAYMUL) ⊎ (eqb (pick b (firstOf PAYMUL r) x) w ≡ eqb t g)
+  found-by : (f r t : ℕ) → r < length PAYMUL → (b : Bool) → eqb t (tagOf PAYMUL r) ≡ b → (x : ℕ) → (x ≡ length PAYMUL) ⊎ (eqb x w ≡ eqb t g) → (if b (firstOf PAYMUL r) x ≡ length PAYMUL) ⊎ (eqb (if b (firstOf PAYMUL r) x) w ≡ eqb t g)
   found-by f r t lt true e x h =
       let q = eqb-true t (tagOf PAYMUL r) e in
       let n = rows-many in
@@ -73,7 +73,7 @@ module _ (w g : ℕ) (test : T (all-to size (λ r. alike (eqb (firstOf PAYMUL r)
   found-in (suc f) r t = go (ltb r (length PAYMUL)) refl (found-in f (nextOf PAYMUL r) t)
     where
       go : (b : Bool) → ltb r (length PAYMUL) ≡ b → (findIn PAYMUL (chainFrom PAYMUL f (nextOf PAYMUL r)) t ≡ length PAYMUL) ⊎ (eqb (findIn PAYMUL (chainFrom PAYMUL f (nextOf PAYMUL r)) t) w ≡ eqb t g)
-          → (findIn PAYMUL (pick b (r ∷ chainFrom PAYMUL f (nextOf PAYMUL r)) []) t ≡ length PAYMUL) ⊎ (eqb (findIn PAYMUL (pick b (r ∷ chainFrom PAYMUL f (nextOf PAYMUL r)) []) t) w ≡ eqb t g)
+          → (findIn PAYMUL (if b (r ∷ chainFrom PAYMUL f (nextOf PAYMUL r)) []) t ≡ length PAYMUL) ⊎ (eqb (findIn PAYMUL (if b (r ∷ chainFrom PAYMUL f (nextOf PAYMUL r)) []) t) w ≡ eqb t g)
       go true e h = found-by f r t (ltb-true r (length PAYMUL) e) (eqb t (tagOf PAYMUL r)) refl (findIn PAYMUL (chainFrom PAYMUL f (nextOf PAYMUL r)) t) h
       go false e h = inl refl
 

@@ -8,7 +8,7 @@ use mathlib.Core.Bool.{Bool, true, false}
 use lib.ListN.{length, length-map}
 use borrow.Author.Tests.{lt-leb}
 use Rattle.service.specs.declared.Service.{Service}
-use Rattle.segments.specs.Classes.{if}
+use Rattle.service.specs.Tests.{if}
 use Rattle.segments.specs.SegmentList.{segmentsFrom, startsOf}
 use Rattle.interchange.specs.declared.Refusal.{Refusal}
 use Rattle.lent.specs.Lists.{Lists}

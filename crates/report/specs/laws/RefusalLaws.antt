@@ -9,13 +9,14 @@ use lib.Dec.{leb}
 use borrow.Author.Tests.{eq-eqb, ne-eqb, leb-false}
 use Rattle.service.specs.declared.Service.{Service}
 use Rattle.service.specs.Service.{Fits, fitting}
+use Rattle.service.specs.Tests.{isEmpty}
 use Rattle.segments.specs.declared.Segment.{Segment}
 use Rattle.segments.specs.declared.Segment.the-variants.{Finished, Unfinished}
 use Rattle.segments.specs.forms.Segments.{segmentAt}
 use Rattle.segments.specs.laws.SegmentsLaws.{Lies}
 use Rattle.segments.specs.SegmentList.{Piece, finished, unfinished, startOf, segmentsFrom, startsFrom, startAt, endOf, endAt}
 use Rattle.segments.specs.laws.StartsLaws.{by-place, starts-count, starts-here}
-use Rattle.parts.specs.Parts.{strangeIn, isNil}
+use Rattle.parts.specs.Parts.{strangeIn}
 use Rattle.tally.specs.Tallied.{firstPlace}
 use Rattle.interchange.specs.declared.Refusal.{Refusal}
 use Rattle.interchange.specs.Messages.{endsClosed}
@@ -46,7 +47,7 @@ pub record Points (v : Service) (m : List ℕ) (f : Refusal) (k : ℕ) : Type 0 
 -- ---- number 10: a segment where it is told has such a byte
 record Spoilt (v : Service) (m : List ℕ) (k : ℕ) (l : List Piece) : Type 0 where
   some : k < length l
-  strange : isNil (strangeIn v m (getD (map startOf l) k (length m))) ≡ false
+  strange : isEmpty (strangeIn v m (getD (map startOf l) k (length m))) ≡ false
 
 module _ (v : Service) (m : List ℕ) where
   abbrev Ten : ℕ → List Piece → ℕ → Type 0
@@ -59,9 +60,9 @@ module _ (v : Service) (m : List ℕ) where
   tens : (n : ℕ) (l : List Piece) → Every (Ten n l) (rule10 n (map (rawOf v m) l))
   unfolding rule10
   tens n [] = tt
-  tens n (p ∷ l) = go (every-map (Ten (suc n) l) (Ten n (p ∷ l)) (later n p l) (rule10 (suc n) (map (rawOf v m) l)) (tens (suc n) l)) (isNil (strangeIn v m (startOf p))) refl
+  tens n (p ∷ l) = go (every-map (Ten (suc n) l) (Ten n (p ∷ l)) (later n p l) (rule10 (suc n) (map (rawOf v m) l)) (tens (suc n) l)) (isEmpty (strangeIn v m (startOf p))) refl
     where
-      go : Every (Ten n (p ∷ l)) (rule10 (suc n) (map (rawOf v m) l)) → (b : Bool) → isNil (strangeIn v m (startOf p)) ≡ b → Every (Ten n (p ∷ l)) (toldUnless b n ++ rule10 (suc n) (map (rawOf v m) l))
+      go : Every (Ten n (p ∷ l)) (rule10 (suc n) (map (rawOf v m) l)) → (b : Bool) → isEmpty (strangeIn v m (startOf p)) ≡ b → Every (Ten n (p ∷ l)) (toldUnless b n ++ rule10 (suc n) (map (rawOf v m) l))
       go rest true e = rest
       go rest false e = ((0, omega arith, record { some = omega arith; strange = e }), rest)
 
@@ -91,7 +92,7 @@ module _ (v : Service) (m : List ℕ) where
   at-byte [] h k w = absurd (let g = w .some in omega arith)
   at-byte (p ∷ l) h zero w = go (strangeIn v m (startOf p)) refl (w .strange)
     where
-      go : (s : List ℕ) → strangeIn v m (startOf p) ≡ s → isNil s ≡ false → (startOf p ≤ getD s 0 0) × (getD s 0 0 < endOf p)
+      go : (s : List ℕ) → strangeIn v m (startOf p) ≡ s → isEmpty s ≡ false → (startOf p ≤ getD s 0 0) × (getD s 0 0 < endOf p)
       go [] e c = absurd (let z : _≡_ {A = ℕ} 0 1 = cc in omega arith)
       go (q ∷ r) e c = h .0 q r e
   at-byte (p ∷ l) h (suc k) w = at-byte l (h .1) k (record { some = let g = w .some in omega arith; strange = w .strange })

@@ -6,8 +6,8 @@ use mathlib.Core.List.{List, [], _∷_, _++_}
 use mathlib.Core.Bool.{Bool, true, false, not, _&&_, _||_}
 use lib.Dec.{eqb}
 use lib.ListN.{length}
-use Rattle.segments.specs.Classes.{if}
 use Rattle.service.specs.declared.Service.{Service}
+use Rattle.service.specs.Tests.{if}
 use Rattle.values.specs.Text.{sameList, says}
 use Rattle.values.specs.forms.Values.{amountOf}
 use Rattle.segments.specs.SegmentList.{startsOf}

@@ -4,12 +4,11 @@ use native.Mathlib.Omega.{arith}
 use mathlib.Core.Path.{_≡_, refl, sym, ap, _∙_, subst}
 use mathlib.Core.Logic.{_⊎_, inl, inr}
 use mathlib.Core.List.{List, [], _∷_, _++_}
-use mathlib.Core.Bool.{Bool, true, false, not}
+use mathlib.Core.Bool.{Bool, true, false, not, _&&_ as and}
 use lib.Dec.{T, eqb, leb}
 use borrow.Author.Tests.{eqb-true, eqb-false, leb-true}
-use Rattle.segments.specs.Classes.{if}
+use Rattle.service.specs.Tests.{if}
 use Rattle.chart.specs.Chart.{Rows, none, row, Placement, no-rows, row-then, Occurrences, no-more, one-then}
-use Rattle.chart.specs.forms.Machine.{and, or}
 use Rattle.table.specs.Entries.{linesFrom, within, text}
 use Rattle.chart.specs.Table.{chartOf, rowOver, inside}
 use Rattle.chart.specs.Paymul.{PAYMUL, chart, table}

@@ -3,7 +3,8 @@ use Prim.Native.Nat.{ℕ, suc}
 use mathlib.Core.List.{List, [], _∷_, _++_}
 use mathlib.Core.Bool.{Bool, false}
 use lib.ListN.{replicate}
-use Rattle.segments.specs.Classes.{if, isBreak}
+use Rattle.service.specs.Tests.{if}
+use Rattle.segments.specs.Classes.{isBreak}
 use Rattle.parts.specs.Parts.{Tok, byte, comp, elem}
 use Rattle.rewrite.specs.Plain.{plainByte}
 

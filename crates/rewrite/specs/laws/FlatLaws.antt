@@ -7,19 +7,15 @@ use mathlib.Core.Bool.{Bool, true, false, _&&_}
 use lib.ListN.{replicate}
 use lib.Dec.{T, eqb}
 use Rattle.service.specs.Service.{among}
-use Rattle.segments.specs.Classes.{if, isBreak}
+use Rattle.service.specs.Tests.{if, isEmpty}
+use Rattle.segments.specs.Classes.{isBreak}
 use Rattle.segments.specs.laws.ResyncLaws.{break-is}
 use Rattle.parts.specs.Parts.{Tok, byte, comp, elem, elements, onFirst, onValue}
 use Rattle.parts.specs.Trimmed.{ahead, trim, Values, trimmed}
 use Rattle.rewrite.specs.Plain.{isReleased, plainByte, plainValue, behind, plainElement, plainElements, begun, plainSegment}
 use Rattle.rewrite.specs.forms.Flat.{flat, leads, lead}
 
--- ---- what is dropped
-abbrev isNil : {A : Type 0} → List A → Bool
-isNil [] = true
-isNil (x ∷ l) = false
-
-ahead-nil : {A : Type 0} (x : List A) (l : List (List A)) → isNil (ahead x l) ≡ isNil x && isNil l
+ahead-nil : {A : Type 0} (x : List A) (l : List (List A)) → isEmpty (ahead x l) ≡ isEmpty x && isEmpty l
 ahead-nil [] [] = refl
 ahead-nil [] (y ∷ l) = refl
 ahead-nil (a ∷ x) l = refl
@@ -58,14 +54,14 @@ elements-by [] (z ∷ l) = refl
 elements-by (a ∷ y) l = refl
 
 -- a separator before them, unless nothing is left
-comps-by : (x : List ℕ) (l : List (List ℕ)) (r : List ℕ) (n : Bool) → n ≡ isNil (ahead x l)
+comps-by : (x : List ℕ) (l : List (List ℕ)) (r : List ℕ) (n : Bool) → n ≡ isEmpty (ahead x l)
     → behind 58 (map plainValue (ahead x l)) ++ r ≡ if n (plainValue x ++ (behind 58 (map plainValue l) ++ r)) (58 ∷ (plainValue x ++ (behind 58 (map plainValue l) ++ r)))
 unfolding plainValue behind
 comps-by [] [] r n q = rw q
 comps-by [] (y ∷ l) r n q = rw q
 comps-by (a ∷ x) l r n q = rw q (ap (λ (z : List ℕ). 58 ∷ z) (append-assoc (plainValue (a ∷ x)) (behind 58 (map plainValue l)) r))
 
-elems-by : (y : List (List ℕ)) (l : Values) (n : Bool) → n ≡ isNil (ahead y l)
+elems-by : (y : List (List ℕ)) (l : Values) (n : Bool) → n ≡ isEmpty (ahead y l)
     → behind 43 (map plainElement (ahead y l)) ≡ if n (plainElement y ++ behind 43 (map plainElement l)) (43 ∷ (plainElement y ++ behind 43 (map plainElement l)))
 unfolding plainElement behind
 elems-by [] [] n q = rw q
@@ -78,8 +74,8 @@ record Shape (t : List Tok) : Type 0 where
   es : Values
   is : elements t ≡ (x ∷ xs) ∷ es
   text : plainValue x ++ (behind 58 (map plainValue (trim xs)) ++ behind 43 (map plainElement (trim (map trim es)))) ≡ spread t
-  blanks : blank t ≡ isNil (ahead x (trim xs))
-  voids : void t ≡ isNil (ahead (ahead x (trim xs)) (trim (map trim es)))
+  blanks : blank t ≡ isEmpty (ahead x (trim xs))
+  voids : void t ≡ isEmpty (ahead (ahead x (trim xs)) (trim (map trim es)))
 
 shape-byte : (b : ℕ) (t : List Tok) → Shape t → Shape (byte b ∷ t)
 unfolding elements plainValue spread blank void
@@ -110,7 +106,7 @@ shape-comp t w = record {
   voids =
       w .voids
       ∙ ahead-nil (ahead (w .x) (trim (w .xs))) (trim (map trim (w .es)))
-      ∙ ap (λ (n : Bool). n && isNil (trim (map trim (w .es)))) (sym (ahead-nil [] (ahead (w .x) (trim (w .xs)))))
+      ∙ ap (λ (n : Bool). n && isEmpty (trim (map trim (w .es)))) (sym (ahead-nil [] (ahead (w .x) (trim (w .xs)))))
       ∙ sym (ahead-nil (ahead [] (ahead (w .x) (trim (w .xs)))) (trim (map trim (w .es))));
 }
 

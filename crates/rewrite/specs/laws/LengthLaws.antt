@@ -12,9 +12,9 @@ use mir.Val.{Fits}
 use mir.Syntax.{w64}
 use Rattle.service.specs.declared.Service.{Service}
 use Rattle.service.specs.Service.{among}
+use Rattle.service.specs.Tests.{if}
 use Rattle.segments.specs.declared.Segment.{Segment}
 use Rattle.segments.specs.declared.Segment.the-variants.{Finished, Unfinished, Nothing}
-use Rattle.segments.specs.Classes.{if}
 use Rattle.segments.specs.forms.Segments.{segmentAt}
 use Rattle.segments.specs.laws.SegmentsLaws.{lies}
 use Rattle.segments.specs.SegmentList.{Piece}

@@ -8,11 +8,12 @@ use mathlib.Core.List.{List, [], _∷_}
 use lib.ListN.{length, drop-of-length-le}
 use Rattle.service.specs.declared.Service.{Service}
 use Rattle.service.specs.Service.{plainService}
+use Rattle.service.specs.Tests.{isEmpty}
 use Rattle.segments.specs.SegmentList.{Piece, finished, gap, pieces, segmentsAfter, segmentsFrom}
 use Rattle.parts.specs.Trimmed.{Values, valuesAt, valuesIn}
 use Rattle.values.specs.Text.{text}
 use Rattle.interchange.specs.declared.Opening.the-variants.{Opens}
-use Rattle.interchange.specs.Messages.{tagAt, isNone, Kind, head, trailer, last, other, cut, kindOf, Extent, isClosed, extentBy, extentOf, messagesBy, messagesOf}
+use Rattle.interchange.specs.Messages.{tagAt, Kind, head, trailer, last, other, cut, kindOf, Extent, isClosed, extentBy, extentOf, messagesBy, messagesOf}
 use Rattle.interchange.specs.Envelope.{openingOf, bodyOf}
 use Rattle.interchange.specs.Damage.{bytesOf}
 use Rattle.interchange.specs.laws.WalkLaws.{Placed, end, at}
@@ -130,7 +131,7 @@ module _ (v : Service) (s : List ℕ) (v′ : Service) (s′ : List ℕ) where
       let g = there v′ s′ a′ t′ l′ y in
       subst (λ (k : Kind). Pairs v s v′ s′ (messagesBy k (extentOf v s a l) (messagesOf v s l)) (messagesOf v′ s′ (finished a′ t′ ∷ l′))) (sym (same-kind v s v′ s′ a t a′ t′ l l′ q w))
       (messages-by (kindOf v′ s′ (finished a′ t′) l′) (extentOf v s a l) (extentOf v′ s′ a′ l′) (messagesOf v s l) (messagesOf v′ s′ l′)
-      (λ (k : kindOf v′ s′ (finished a′ t′) l′ ≡ head). same-message a t a′ t′ l l′ q w f g (head-tag (tagAt v′ s′ a′) (isNone l′) k)) (same-messages w (f .rest) (g .rest)))
+      (λ (k : kindOf v′ s′ (finished a′ t′) l′ ≡ head). same-message a t a′ t′ l l′ q w f g (head-tag (tagAt v′ s′ a′) (isEmpty l′) k)) (same-messages w (f .rest) (g .rest)))
 
 -- ---- an interchange that opens, and whose plain bytes are no more than an interchange may have
 module _ (s : List ℕ) (v : Service) (first : ℕ) (o : openingOf s ≡ Opens v first) where

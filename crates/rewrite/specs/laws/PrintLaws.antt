@@ -8,9 +8,10 @@ use mathlib.Core.Bool.{Bool, true, false, _||_}
 use lib.Dec.{T, eqb}
 use Rattle.service.specs.declared.Service.{Service}
 use Rattle.service.specs.Service.{plainService, among}
+use Rattle.service.specs.Tests.{if}
 use Rattle.segments.specs.declared.Class.{Class}
 use Rattle.segments.specs.declared.Class.the-variants.{Plain, Comp, Elem, Rel, Term}
-use Rattle.segments.specs.Classes.{if, classOf, isBreak}
+use Rattle.segments.specs.Classes.{classOf, isBreak}
 use Rattle.segments.specs.laws.ResyncLaws.{break-is}
 use Rattle.parts.specs.Parts.{Tok, byte, comp, elem, elements, onFirst, onValue}
 use Rattle.parts.specs.Written.{Writes, none, as-is, component, element}

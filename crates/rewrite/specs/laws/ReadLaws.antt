@@ -8,8 +8,9 @@ use lib.ListN.{length, drop, length-append}
 use lib.Seq.{drop-append-seam}
 use Rattle.service.specs.declared.Service.{Service}
 use Rattle.service.specs.Service.{plainService}
+use Rattle.service.specs.Tests.{if}
 use Rattle.segments.specs.declared.Class.the-variants.{Term}
-use Rattle.segments.specs.Classes.{if, classOf, isBreak}
+use Rattle.segments.specs.Classes.{classOf, isBreak}
 use Rattle.segments.specs.SegmentList.{Piece, finished, gap, inside, pieces, segmentsFrom}
 use Rattle.segments.specs.laws.ResyncLaws.{gap-start, unbroken, gap-first, gap-inside}
 use Rattle.parts.specs.Parts.{Tok, lex, elements}

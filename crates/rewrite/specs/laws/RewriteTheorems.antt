@@ -9,9 +9,9 @@ use lib.ListN.{length}
 use lib.Dec.{leb}
 use borrow.Author.Tests.{leb-true}
 use Rattle.service.specs.laws.ServiceLaws.{and-left, and-right}
-use Rattle.segments.specs.Classes.{if}
 use Rattle.service.specs.declared.Service.{Service}
 use Rattle.service.specs.Service.{plainService}
+use Rattle.service.specs.Tests.{if}
 use Rattle.segments.specs.SegmentList.{Piece, segmentsFrom}
 use Rattle.parts.specs.Parts.{valueAt}
 use Rattle.parts.specs.Trimmed.{Values, trimmed, valuesAt, valuesFrom}

@@ -9,7 +9,7 @@ use lib.Dec.{leb}
 use borrow.Author.Tests.{leb-true, le-leb, lt-leb}
 use Rattle.service.specs.declared.Service.{Service}
 use Rattle.service.specs.laws.ServiceLaws.{and-left, and-right}
-use Rattle.segments.specs.Classes.{if}
+use Rattle.service.specs.Tests.{if}
 use Rattle.parts.specs.Trimmed.{valuesFrom}
 use Rattle.interchange.specs.declared.Refusal.{Refusal}
 use Rattle.interchange.specs.declared.Opening.{Opening}

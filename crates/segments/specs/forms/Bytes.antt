@@ -4,11 +4,12 @@ use mathlib.Core.List.{List, [], _∷_}
 use mathlib.Core.Bool.{Bool, true, false}
 use lib.Dec.{eqb}
 use Rattle.service.specs.declared.Service.{Service}
+use Rattle.service.specs.Tests.{if}
 use Rattle.segments.specs.declared.Class.{Class}
 use Rattle.segments.specs.declared.Class.the-variants.{Plain, Comp, Elem, Rel, Term}
 use Rattle.segments.specs.declared.End.{End}
 use Rattle.segments.specs.declared.End.the-variants.{At, None}
-use Rattle.segments.specs.Classes.{if, classOf}
+use Rattle.segments.specs.Classes.{classOf}
 
 -- by what the next byte is: the segment ends at i, or goes on after a release, or goes on
 abbrev pub endBy : Class → ℕ → End → End → End

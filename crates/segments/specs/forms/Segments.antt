@@ -5,11 +5,11 @@ use mathlib.Core.Bool.{false}
 use lib.ListN.{length, drop}
 use lib.Dec.{ltb}
 use Rattle.service.specs.declared.Service.{Service}
+use Rattle.service.specs.Tests.{if}
 use Rattle.segments.specs.declared.End.{End}
 use Rattle.segments.specs.declared.End.the-variants.{At, None}
 use Rattle.segments.specs.declared.Segment.{Segment}
 use Rattle.segments.specs.declared.Segment.the-variants.{Finished, Unfinished, Nothing}
-use Rattle.segments.specs.Classes.{if}
 use Rattle.segments.specs.forms.Bytes.{endFrom, pastBreaks}
 
 -- by its end: bytes that no terminator ends are an unfinished segment; breaks after a terminator belong to nothing

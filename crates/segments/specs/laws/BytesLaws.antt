@@ -10,11 +10,12 @@ use borrow.Author.Tests.{eq-eqb, ne-eqb, eqb-true, eqb-false}
 use lib.ListN.{length, getD, drop, drop-of-length-le}
 use lib.Seq.{drop-cons, drop-drop}
 use Rattle.service.specs.declared.Service.{Service}
+use Rattle.service.specs.Tests.{if}
 use Rattle.segments.specs.declared.Class.{Class}
 use Rattle.segments.specs.declared.Class.the-variants.{Plain, Comp, Elem, Rel, Term}
 use Rattle.segments.specs.declared.End.{End}
 use Rattle.segments.specs.declared.End.the-variants.{At, None}
-use Rattle.segments.specs.Classes.{if, classOf}
+use Rattle.segments.specs.Classes.{classOf}
 use Rattle.segments.specs.forms.Bytes.{endBy, endFrom, releaseBy, releaseOf, pastBreaks}
 
 -- what an unreleased byte is, by the tests in the order of `classOf`

@@ -10,9 +10,10 @@ use lib.Seq.{drop-drop, take-add, getD-drop}
 use lib.Dec.{T, eqb}
 use borrow.Author.Tests.{eqb-true}
 use Rattle.service.specs.declared.Service.{Service}
+use Rattle.service.specs.Tests.{if}
 use Rattle.segments.specs.declared.Class.{Class}
 use Rattle.segments.specs.declared.Class.the-variants.{Plain, Comp, Elem, Rel, Term}
-use Rattle.segments.specs.Classes.{if, classOf, isBreak}
+use Rattle.segments.specs.Classes.{classOf, isBreak}
 use Rattle.segments.specs.SegmentList.{Piece, finished, unfinished, Mode, gap, first, inside, held, mode, ended, after, ends, startIn, emit, left, pieces, segmentsAfter, allFinished}
 use Rattle.segments.specs.Sync.{run}
 use Rattle.segments.specs.laws.SyncLaws.{modeOf}

@@ -7,9 +7,10 @@ use mathlib.Core.Bool.{Bool, true, false}
 use lib.ListN.{length}
 use lib.Dec.{T}
 use Rattle.service.specs.declared.Service.{Service}
+use Rattle.service.specs.Tests.{if}
 use Rattle.segments.specs.declared.Class.{Class}
 use Rattle.segments.specs.declared.Class.the-variants.{Plain, Comp, Elem, Rel, Term}
-use Rattle.segments.specs.Classes.{if, classOf, isBreak}
+use Rattle.segments.specs.Classes.{classOf, isBreak}
 use Rattle.segments.specs.SegmentList.{Piece, Mode, gap, first, inside, held, mode, after, ends, startIn, emit, left, pieces, allFinished}
 use Rattle.segments.specs.Sync.{run, shift}
 use Rattle.segments.specs.laws.ResyncLaws.{gap-start, pieces-append, pieces-shift}

@@ -8,11 +8,12 @@ use mathlib.Core.Bool.{Bool, true, false}
 use lib.ListN.{length, getD, take}
 use lib.Dec.{T, eqb}
 use Rattle.service.specs.declared.Service.{Service}
+use Rattle.service.specs.Tests.{if}
 use Rattle.segments.specs.declared.Class.{Class}
 use Rattle.segments.specs.declared.Class.the-variants.{Plain, Comp, Elem, Rel, Term}
 use Rattle.segments.specs.declared.End.{End}
 use Rattle.segments.specs.declared.End.the-variants.{At, None}
-use Rattle.segments.specs.Classes.{if, classOf, isBreak}
+use Rattle.segments.specs.Classes.{classOf, isBreak}
 use Rattle.segments.specs.forms.Bytes.{endBy, endFrom, pastBreaks}
 use Rattle.segments.specs.Sync.{relBy, relNext, relAfter}
 use Rattle.segments.specs.laws.PartLaws.{end-low}

@@ -13,7 +13,7 @@ use Rattle.service.specs.Service.{serves, Fits}
 use Rattle.service.specs.laws.FitLaws.{serves-range}
 use Rattle.segments.specs.declared.Class.{Class}
 use Rattle.segments.specs.declared.Class.the-variants.{Plain, Comp, Elem, Rel, Term}
-use Rattle.segments.specs.Classes.{if, classOf, isBreak}
+use Rattle.segments.specs.Classes.{classOf, isBreak}
 use Rattle.segments.specs.laws.BytesLaws.{class-term, class-plain, class-plain′}
 use Rattle.segments.specs.SegmentList.{Piece, Mode, gap, pieces}
 use Rattle.segments.specs.Sync.{run, shift, relAfter, Sound}

@@ -11,7 +11,6 @@ use Rattle.segments.specs.declared.End.{End}
 use Rattle.segments.specs.declared.End.the-variants.{At, None}
 use Rattle.segments.specs.declared.Segment.{Segment}
 use Rattle.segments.specs.declared.Segment.the-variants.{Finished, Unfinished, Nothing}
-use Rattle.segments.specs.Classes.{if}
 use Rattle.segments.specs.forms.Bytes.{endFrom, pastBreaks}
 use Rattle.segments.specs.SegmentList.{Piece, finished, unfinished, gap, first, emit, pieces, segmentsFrom, segmentsAfter, allFinished}
 use Rattle.segments.specs.laws.ResyncLaws.{gap-start}

@@ -11,9 +11,10 @@ use lib.ListN.{length}
 use lib.Dec.{T, eqb}
 use borrow.Author.Tests.{eqb-true}
 use Rattle.service.specs.declared.Service.{Service}
+use Rattle.service.specs.Tests.{if}
 use Rattle.segments.specs.declared.Class.{Class}
 use Rattle.segments.specs.declared.Class.the-variants.{Plain, Comp, Elem, Rel, Term}
-use Rattle.segments.specs.Classes.{if, classOf, isBreak}
+use Rattle.segments.specs.Classes.{classOf, isBreak}
 use Rattle.segments.specs.SegmentList.{Piece, Mode, gap, first, inside, held, mode, ended, after, ends, startIn, emit, left, pieces}
 use Rattle.segments.specs.Sync.{run, shift, relBy, relNext, relAfter, Sound}
 

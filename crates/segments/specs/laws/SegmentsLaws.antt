@@ -11,11 +11,11 @@ use borrow.Author.Tests.{lt-ltb, le-ltb}
 use mir.Val.{Fits}
 use mir.Syntax.{w64}
 use Rattle.service.specs.declared.Service.{Service}
+use Rattle.service.specs.Tests.{if}
 use Rattle.segments.specs.declared.End.{End}
 use Rattle.segments.specs.declared.End.the-variants.{At, None}
 use Rattle.segments.specs.declared.Segment.{Segment}
 use Rattle.segments.specs.declared.Segment.the-variants.{Finished, Unfinished, Nothing}
-use Rattle.segments.specs.Classes.{if}
 use Rattle.segments.specs.forms.Bytes.{endFrom, pastBreaks}
 use Rattle.segments.specs.laws.SyncLaws.{Ended, rest-at, skipped}
 use Rattle.segments.specs.forms.Segments.{segmentBy, segmentAt}

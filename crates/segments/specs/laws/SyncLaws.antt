@@ -10,11 +10,12 @@ use lib.ListN.{length, getD, drop, length-drop, drop-of-length-le}
 use lib.Seq.{drop-drop}
 use lib.Dec.{eqb}
 use Rattle.service.specs.declared.Service.{Service}
+use Rattle.service.specs.Tests.{if}
 use Rattle.segments.specs.declared.Class.{Class}
 use Rattle.segments.specs.declared.Class.the-variants.{Plain, Comp, Elem, Rel, Term}
 use Rattle.segments.specs.declared.End.{End}
 use Rattle.segments.specs.declared.End.the-variants.{At, None}
-use Rattle.segments.specs.Classes.{if, classOf, isBreak}
+use Rattle.segments.specs.Classes.{classOf, isBreak}
 use Rattle.segments.specs.forms.Bytes.{endBy, endFrom, pastBreaks}
 use Rattle.segments.specs.SegmentList.{Piece, finished, unfinished, Mode, gap, first, inside, held, mode, ended, after, ends, startIn, emit, left, pieces, segmentsFrom}
 use Rattle.segments.specs.laws.ResyncLaws.{gap-start}

@@ -14,9 +14,10 @@ use Rattle.service.specs.Service.{isAlphanumeric, among, distinct, servingBy, F
 use Rattle.service.specs.laws.ServiceLaws.{and-left, and-right, neither-left, neither-right}
 use Rattle.service.specs.laws.FitLaws.{characters-fit}
 use Rattle.service.specs.laws.UnaLaws.{Names, named, nine, serves-no-letter}
+use Rattle.service.specs.Tests.{if}
 use Rattle.segments.specs.declared.Class.{Class}
 use Rattle.segments.specs.declared.Class.the-variants.{Plain, Comp, Elem, Rel, Term}
-use Rattle.segments.specs.Classes.{if, classOf}
+use Rattle.segments.specs.Classes.{classOf}
 use Rattle.segments.specs.laws.BytesLaws.{class-elem, class-comp, class-rel, class-plain, class-plain′}
 use Rattle.segments.specs.SegmentList.{Piece, finished, gap, inside, mode, ended, emit, pieces, segmentsAfter}
 use Rattle.segments.specs.laws.ResyncLaws.{gap-start}

@@ -8,10 +8,10 @@ use mathlib.Core.Bool.{Bool, true, false}
 use lib.ListN.{length, drop, length-drop, length-append}
 use lib.Dec.{eqb}
 use Rattle.service.specs.declared.Service.{Service}
+use Rattle.service.specs.Tests.{if}
 use Rattle.segments.specs.declared.End.{End}
 use Rattle.segments.specs.declared.End.the-variants.{At, None}
 use Rattle.segments.specs.declared.Segment.the-variants.{Finished}
-use Rattle.segments.specs.Classes.{if}
 use Rattle.segments.specs.forms.Bytes.{endFrom, pastBreaks}
 use Rattle.segments.specs.forms.Segments.{segmentBy, segmentAt}
 use Rattle.segments.specs.laws.SyncLaws.{skipped}

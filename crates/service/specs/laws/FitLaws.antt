@@ -11,8 +11,9 @@ use borrow.Author.Tests.{leb-true}
 use Rattle.service.specs.declared.Service.{Service}
 use Rattle.service.specs.declared.Characters.{Characters}
 use Rattle.service.specs.declared.Characters.the-variants.{Fit, Unfit}
-use Rattle.service.specs.Service.{plainService, within, isAlphanumeric, serves, isNone, isMark, among, distinct, presentBy, fit, serviceOf, servingBy, Fits, fitting, pick, namedBy, beginsUna, charactersOf}
+use Rattle.service.specs.Service.{plainService, within, isAlphanumeric, serves, isNone, isMark, among, distinct, presentBy, fit, serviceOf, servingBy, Fits, fitting, namedBy, beginsUna, charactersOf}
 use Rattle.service.specs.laws.ServiceLaws.{and-left, and-right}
+use Rattle.service.specs.Tests.{if}
 
 -- ---- without the mark the others still differ
 skip : (x y z u w a d : Bool) → (not (x || (y || z)) && (not (u || w) && (not a && d))) ≡ true → (not (x || z) && (not w && d)) ≡ true
@@ -85,14 +86,14 @@ pub plain-fits : Fits plainService
 unfolding serves isAlphanumeric distinct among
 plain-fits = record { component = refl; element = refl; terminator = refl; release = λ e. refl; differ = refl }
 
-named-by : (c e m r p t : ℕ) (k : Bool) → fit c e m r p t ≡ k → (v : Service) (n : ℕ) → pick k (Fit (serviceOf c e r t) 9) Unfit ≡ Fit v n → Fits v × (n ≡ 9)
+named-by : (c e m r p t : ℕ) (k : Bool) → fit c e m r p t ≡ k → (v : Service) (n : ℕ) → if k (Fit (serviceOf c e r t) 9) Unfit ≡ Fit v n → Fits v × (n ≡ 9)
 named-by c e m r p t true h v n q =
     let w : serviceOf c e r t ≡ v = cc in
     let x : n ≡ 9 = cc in
     (subst Fits w (fit-bytes c e m r p t h), x)
 named-by c e m r p t false h v n q = absurd (let z : _≡_ {A = ℕ} 0 1 = cc in omega arith)
 
-by-una : (k j : Bool) (c e m r p t : ℕ) (v : Service) (n : ℕ) → pick k (pick j (namedBy c e m r p t) Unfit) (Fit plainService 0) ≡ Fit v n → Fits v × ((n ≡ 0) ⊎ (n ≡ 9))
+by-una : (k j : Bool) (c e m r p t : ℕ) (v : Service) (n : ℕ) → if k (if j (namedBy c e m r p t) Unfit) (Fit plainService 0) ≡ Fit v n → Fits v × ((n ≡ 0) ⊎ (n ≡ 9))
 unfolding namedBy
 by-una true true c e m r p t v n q = let w = named-by c e m r p t (fit c e m r p t) refl v n q in (w .0, inr (w .1))
 by-una true false c e m r p t v n q = absurd (let z : _≡_ {A = ℕ} 0 1 = cc in omega arith)

@@ -10,7 +10,7 @@ use borrow.Author.Tests.{eq-eqb, ne-eqb, le-leb, lt-leb, leb-true, leb-false, eq
 use Rattle.service.specs.declared.Service.{Service}
 use Rattle.service.specs.declared.Characters.{Characters}
 use Rattle.service.specs.declared.Characters.the-variants.{Fit, Unfit}
-use Rattle.service.specs.Service.{plainService, within, isAlphanumeric, serves, isNone, isMark, among, distinct, presentBy, fit, serviceOf, pick, namedBy, servingBy, fitting, beginsUna, charactersOf}
+use Rattle.service.specs.Service.{plainService, within, isAlphanumeric, serves, isNone, isMark, among, distinct, presentBy, fit, serviceOf, namedBy, servingBy, fitting, beginsUna, charactersOf}
 
 -- ---- tests joined
 pub and-left : (x y : Bool) → (x && y) ≡ true → x ≡ true

@@ -10,9 +10,10 @@ use lib.Dec.{T, eqb, leb}
 use borrow.Author.Tests.{le-leb, leb-true, eqb-true, eqb-false}
 use Rattle.service.specs.declared.Service.{Service}
 use Rattle.service.specs.declared.Characters.the-variants.{Fit, Unfit}
-use Rattle.service.specs.Service.{plainService, within, isAlphanumeric, serves, isNone, isMark, among, distinct, presentBy, fit, serviceOf, pick, namedBy, beginsUna, charactersOf}
+use Rattle.service.specs.Service.{plainService, within, isAlphanumeric, serves, isNone, isMark, among, distinct, presentBy, fit, serviceOf, namedBy, beginsUna, charactersOf}
 use Rattle.service.specs.laws.ServiceLaws.{and-left, and-right, neither-left, neither-right, characters-plain}
 use Rattle.service.specs.laws.FitLaws.{characters-fit}
+use Rattle.service.specs.Tests.{if}
 
 -- the bytes c, e, m, r, p, t after the letters name v
 pub record Names (c e m r p t : ℕ) (v : Service) : Type 0 where
@@ -68,12 +69,12 @@ pub record Named (s : List ℕ) (v : Service) : Type 0 where
   pub long : 9 ≤ length s
   pub names : Names (getD s 3 0) (getD s 4 0) (getD s 5 0) (getD s 6 0) (getD s 7 0) (getD s 8 0) v
 
-names-by : (c e m r p t : ℕ) (k : Bool) → fit c e m r p t ≡ k → (v : Service) → pick k (Fit (serviceOf c e r t) 9) Unfit ≡ Fit v 9 → Names c e m r p t v
+names-by : (c e m r p t : ℕ) (k : Bool) → fit c e m r p t ≡ k → (v : Service) → if k (Fit (serviceOf c e r t) 9) Unfit ≡ Fit v 9 → Names c e m r p t v
 names-by c e m r p t true h v q = let w : serviceOf c e r t ≡ v = cc in subst (Names c e m r p t) w (names-fit c e m r p t h)
 names-by c e m r p t false h v q = absurd (let z : _≡_ {A = ℕ} 0 1 = cc in omega arith)
 
 named-by : (s : List ℕ) (v : Service) (k j : Bool) → beginsUna s ≡ k → leb 9 (length s) ≡ j
-    → pick k (pick j (namedBy (getD s 3 0) (getD s 4 0) (getD s 5 0) (getD s 6 0) (getD s 7 0) (getD s 8 0)) Unfit) (Fit plainService 0) ≡ Fit v 9 → Named s v
+    → if k (if j (namedBy (getD s 3 0) (getD s 4 0) (getD s 5 0) (getD s 6 0) (getD s 7 0) (getD s 8 0)) Unfit) (Fit plainService 0) ≡ Fit v 9 → Named s v
 unfolding namedBy beginsUna
 named-by s v true true b l q =
     let x = and-right (eqb (getD s 0 0) 85) _ b in
@@ -116,11 +117,11 @@ unfolding serves
 serves-no-letter b x a e q = serves-by (within 33 126 x) (isAlphanumeric x) e (ap isAlphanumeric (sym q) ∙ a)
 
 -- ---- the characters are said by the first bytes
-unnamed-by : (c e m r p t : ℕ) (k : Bool) (v : Service) → pick k (Fit (serviceOf c e r t) 9) Unfit ≡ Fit v 0 → ⊥
+unnamed-by : (c e m r p t : ℕ) (k : Bool) (v : Service) → if k (Fit (serviceOf c e r t) 9) Unfit ≡ Fit v 0 → ⊥
 unnamed-by c e m r p t true v q = let x : _≡_ {A = ℕ} 9 0 = cc in omega arith
 unnamed-by c e m r p t false v q = let z : _≡_ {A = ℕ} 0 1 = cc in omega arith
 
-without-by : (k j : Bool) (c e m r p t : ℕ) (v : Service) → pick k (pick j (namedBy c e m r p t) Unfit) (Fit plainService 0) ≡ Fit v 0 → k ≡ false
+without-by : (k j : Bool) (c e m r p t : ℕ) (v : Service) → if k (if j (namedBy c e m r p t) Unfit) (Fit plainService 0) ≡ Fit v 0 → k ≡ false
 unfolding namedBy
 without-by true true c e m r p t v q = absurd (unnamed-by c e m r p t (fit c e m r p t) v q)
 without-by true false c e m r p t v q = absurd (let z : _≡_ {A = ℕ} 0 1 = cc in omega arith)

@@ -7,7 +7,7 @@ use lib.ListN.{drop}
 use lib.Dec.{eqb, ltb, leb}
 use Rattle.service.specs.declared.Service.{Service}
 use Rattle.service.specs.Service.{isMark}
-use Rattle.segments.specs.Classes.{if}
+use Rattle.service.specs.Tests.{if}
 use Rattle.parts.specs.declared.Token.{Token}
 use Rattle.parts.specs.declared.Token.the-variants as token
 use Rattle.parts.specs.forms.Lex.{tokenAt}

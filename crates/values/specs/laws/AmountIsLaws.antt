@@ -12,7 +12,7 @@ use lib.Dec.{T, eqb, ltb}
 use lib.Pow.{pow-add}
 use borrow.Author.Tests.{eqb-true, eqb-false, ltb-false, ne-eqb, le-ltb}
 use Rattle.service.specs.Service.{isMark}
-use Rattle.segments.specs.Classes.{if}
+use Rattle.service.specs.Tests.{if}
 use Rattle.values.specs.declared.Amount.{Amount}
 use Rattle.values.specs.declared.Amount.the-variants as amount
 use Rattle.values.specs.Numbers.{Digits, none, more, Unled, worth}

@@ -10,7 +10,7 @@ use mathlib.Core.Bool.{Bool, true, false}
 use lib.ListN.{length, getD}
 use lib.Dec.{T, eqb, ltb, leb}
 use borrow.Author.Tests.{eq-eqb, ne-eqb, lt-ltb, le-ltb, le-leb, eqb-true, ltb-true, ltb-false, leb-true}
-use Rattle.segments.specs.Classes.{if}
+use Rattle.service.specs.Tests.{if}
 use Rattle.values.specs.Numbers.{ThreeCapitals}
 use Rattle.values.specs.forms.Values.{codeFrom, codeOf, isCapital, isCapitals}
 

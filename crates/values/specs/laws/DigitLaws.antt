@@ -10,7 +10,7 @@ use lib.ListN.{length, getD, length-append}
 use lib.Pow.{pow-add}
 use lib.Dec.{ltb}
 use borrow.Author.Tests.{ltb-false, le-ltb}
-use Rattle.segments.specs.Classes.{if}
+use Rattle.service.specs.Tests.{if}
 use Rattle.values.specs.Numbers.{Digits, none, more, Unled, worth}
 
 -- ---- a test that was passed

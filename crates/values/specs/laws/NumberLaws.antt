@@ -9,7 +9,6 @@ use mathlib.Core.Bool.{Bool, true, false}
 use lib.ListN.{length, getD, length-append}
 use lib.Dec.{T, eqb, ltb}
 use borrow.Author.Tests.{eqb-true, eqb-false, eq-eqb, ltb-false, ne-eqb, le-ltb}
-use Rattle.segments.specs.Classes.{if}
 use Rattle.values.specs.declared.Number.{Number}
 use Rattle.values.specs.declared.Number.the-variants as number
 use Rattle.values.specs.Numbers.{Digits, none, more, Unled, worth, NumberIs}

@@ -7,7 +7,7 @@ use mathlib.Core.List.{List, [], _∷_}
 use mathlib.Core.Bool.{Bool, true, false}
 use lib.Dec.{eqb}
 use borrow.Author.Tests.{eq-eqb, ne-eqb, eqb-true, eqb-false}
-use Rattle.segments.specs.Classes.{if}
+use Rattle.service.specs.Tests.{if}
 use Rattle.values.specs.declared.Amount.the-variants as amount
 use Rattle.values.specs.Exactly.{Exactly}
 use Rattle.values.specs.Numbers.{NumberIs, ThreeCapitals}

@@ -8,7 +8,7 @@ use lib.ListN.{length, drop}
 use lib.Dec.{eqb}
 use borrow.Author.Tests.{eq-eqb, ne-eqb, lt-ltb, le-ltb}
 use Rattle.service.specs.declared.Service.{Service}
-use Rattle.segments.specs.Classes.{if}
+use Rattle.service.specs.Tests.{if}
 use Rattle.parts.specs.declared.Token.{Token}
 use Rattle.parts.specs.declared.Token.the-variants as token
 use Rattle.parts.specs.Parts.{lex, valueOf}
