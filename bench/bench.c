@@ -1,6 +1,6 @@
 /* Times the check of an interchange beside a plain scan of its bytes, and measures the stack that a check uses.
- * Usage: bench DEEPEST FILE...: DEEPEST holds a message that goes as deep as the chart does; each FILE is an interchange of
- * realistic messages, the shortest first. */
+ * Usage: bench DEEPEST FILE...: DEEPEST holds a message that goes as deep as the chart does; each FILE is an interchange, those of
+ * one kind one after the other, the shortest first. A scan and a check take turns, and the least processor time of each counts. */
 #define _POSIX_C_SOURCE 200809L
 #include <inttypes.h>
 #include <pthread.h>
@@ -10,7 +10,7 @@
 #include <time.h>
 #include "../include/twineherald.h"
 
-enum { LISTS = 9999, ROUNDS = 7, STACK = 1 << 20, MOST_STACK = 4608 };
+enum { LISTS = 9999, ROUNDS = 60, STACK = 1 << 20, MOST_STACK = 3600 };
 
 typedef struct {
     const uint8_t *bytes;
@@ -21,10 +21,11 @@ typedef struct {
     uint64_t accepted;
 } work;
 
+/* Processor time of this thread. */
 static double now(void)
 {
     struct timespec t;
-    clock_gettime(CLOCK_MONOTONIC, &t);
+    clock_gettime(CLOCK_THREAD_CPUTIME_ID, &t);
     return (double)t.tv_sec + (double)t.tv_nsec / 1e9;
 }
 
@@ -73,21 +74,17 @@ static void walk_all(work *w)
     }
 }
 
-static double best(void (*run)(work *), work *w)
-{
-    double least = 1e9;
-    for (int k = 0; k < ROUNDS; k++) {
-        double from = now();
-        run(w);
-        double took = now() - from;
-        if (took < least)
-            least = took;
-    }
-    return least;
-}
-
 static volatile uint64_t sink;
 static void scan_all(work *w) { sink = scan(w->bytes, w->length); }
+
+static void time_once(void (*run)(work *), work *w, double *least)
+{
+    double from = now();
+    run(w);
+    double took = now() - from;
+    if (took < *least)
+        *least = took;
+}
 
 static void *nothing(void *unused) { return unused; }
 static void *on_thread(void *p)
@@ -130,40 +127,64 @@ static uint8_t *read_file(const char *path, size_t *length)
     return bytes;
 }
 
+/* A FILE: a line of figures; gives the cost of a byte in scans. */
+static double measure(const char *path, work *w)
+{
+    double plain = 1e9, whole = 1e9, walk = 1e9;
+    uint8_t *bytes = read_file(path, &w->length);
+    w->bytes = bytes;
+    for (int k = 0; k < ROUNDS; k++) {
+        time_once(scan_all, w, &plain);
+        time_once(check_all, w, &whole);
+        time_once(walk_all, w, &walk);
+    }
+    printf("%8zu bytes, %4" PRIu64 " messages accepted: plain scan %.3f ms, open, walk and close %.3f ms (%.1f scans), walk alone %.3f ms (%.1f scans)\n",
+           w->length, w->accepted, plain * 1e3, whole * 1e3, whole / plain, walk * 1e3, walk / plain);
+    double cost = whole / (double)w->length;
+    free(bytes);
+    return cost;
+}
+
+static size_t used_by(const char *path, work *w, size_t empty)
+{
+    uint8_t *bytes = read_file(path, &w->length);
+    w->bytes = bytes;
+    size_t used = touched(on_thread, w) - empty;
+    free(bytes);
+    return used;
+}
+
 int main(int count, char **files)
 {
-    double first = 0, last = 0;
-    size_t stack = 0;
     work w = {0};
     w.rows = calloc(LISTS, sizeof *w.rows);
     w.starts = calloc(LISTS, sizeof *w.starts);
     w.totals = calloc(LISTS, sizeof *w.totals);
     if (count < 3 || w.rows == NULL || w.starts == NULL || w.totals == NULL)
         return 2;
-    size_t empty = touched(nothing, NULL);
-    uint8_t *deepest = read_file(files[1], &w.length);
-    w.bytes = deepest;
-    stack = touched(on_thread, &w) - empty;
-    printf("stack: %zu bytes besides the lists at the deepest placement (%" PRIu64 " accepted)\n", stack, w.accepted);
-    free(deepest);
-    for (int k = 2; k < count; k++) {
-        uint8_t *bytes = read_file(files[k], &w.length);
-        w.bytes = bytes;
-        double plain = best(scan_all, &w), whole = best(check_all, &w), walk = best(walk_all, &w);
-        size_t used = touched(on_thread, &w) - empty;
+    size_t empty = touched(nothing, NULL), stack = 0;
+    for (int k = 1; k < count; k++) {
+        size_t used = used_by(files[k], &w, empty);
+        if (k == 1)
+            printf("stack: %zu bytes besides the lists at the deepest placement (%" PRIu64 " accepted)\n", used, w.accepted);
         if (used > stack)
             stack = used;
-        last = whole / (double)w.length;
-        if (k == 2)
-            first = last;
-        printf("%8zu bytes, %4" PRIu64 " messages accepted: plain scan %.3f ms, open, walk and close %.3f ms (%.1f scans), walk alone %.3f ms (%.1f scans)\n",
-               w.length, w.accepted, plain * 1e3, whole * 1e3, whole / plain, walk * 1e3, walk / plain);
-        free(bytes);
     }
-    printf("cost of a byte, longest against shortest: %.2f\n", last / first);
     printf("stack: %zu bytes besides the lists at most\n", stack);
+    int linear = 1;
+    double first = 0;
+    size_t before = 0;
+    for (int k = 2; k < count; k++) {
+        double cost = measure(files[k], &w);
+        if (w.length < before || k == 2)
+            first = cost;
+        else
+            printf("cost of a byte against the shortest file of its kind: %.2f\n", cost / first);
+        linear = linear && cost < 2 * first;
+        before = w.length;
+    }
     free(w.rows);
     free(w.starts);
     free(w.totals);
-    return last < 2 * first && stack < MOST_STACK ? 0 : 1;
+    return linear && stack <= MOST_STACK ? 0 : 1;
 }

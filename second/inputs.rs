@@ -101,6 +101,11 @@ pub fn random_input(random: &mut Random) -> Input {
         damage::break_envelope(random, &mut segments);
         label += "and envelope ";
     }
+    // where there is no release, a space before a terminator is the last byte of a value
+    if style.service.release.is_none() && random.chance(60) {
+        end_in_spaces(random, &mut segments, good);
+        label += " and spaces";
+    }
     let mut bytes = make::write(random, &segments, &style);
     let mut known = style.service.release.is_some().then_some(segments);
     let special = special(&style);
@@ -124,6 +129,18 @@ pub fn random_input(random: &mut Random) -> Input {
         _ => {}
     }
     Input { label, bytes, segments: known, good }
+}
+
+/// A space at the end of some segments; in a good interchange only where no rule speaks of the value.
+fn end_in_spaces(random: &mut Random, segments: &mut [Segment], good: bool) {
+    for segment in segments {
+        let free = [&b"FTX"[..], b"NAD", b"FII", b"RFF"].contains(&segment.tag());
+        if (free || !good) && random.chance(60) {
+            if let Some(value) = segment.elements.last_mut().and_then(|components| components.last_mut()) {
+                value.push(b' ');
+            }
+        }
+    }
 }
 
 /// The bytes that mean something under these service characters.
@@ -408,6 +425,44 @@ pub fn realistic(random: &mut Random, bytes: usize) -> Vec<u8> {
     }
     let segments = make::envelope(random, messages);
     make::write(random, &segments, &style)
+}
+
+/// An interchange of messages that are all alike, just below so many bytes: ten orders of ten payments each, no release, no breaks.
+pub fn regular(bytes: usize) -> Vec<u8> {
+    let payment = |order: usize, payment: usize| {
+        format!(
+            "SEQ++{payment}'MOA+9:125,5:EUR'RFF+CR:WELL-{order:02}-{payment:03}'FII+BF+DE00200300400500600700:DEEP BORE DRILLING:KASSEL'\
+             NAD+BE+++DEEP BORE DRILLING+MILL LANE 4+KASSEL++34117+DE'PRC+11'FTX+PMD+++WORK AT WELL {payment:03} IN MARCH'"
+        )
+    };
+    let order = |order: usize| {
+        let payments: String = (1..=10).map(|number| payment(order, number)).collect();
+        format!(
+            "LIN+{order}'DTM+203:20240308:102'RFF+AEK:WELL-{order:02}'MOA+9:1255:EUR'\
+             FII+OR+DE00100200300400500600:CLEAN WELLS FUND:BREMEN'{payments}"
+        )
+    };
+    let orders: String = (1..=10).map(order).collect();
+    let message = |number: usize| {
+        let body = format!(
+            "UNH+{number}+PAYMUL:D:96A:UN'BGM+452+WELLS{number:04}+9'DTM+137:20240306:102'FII+MR++WATRDEFF:25:5'\
+             NAD+MS+4000000000013:160:9'{orders}CNT+2:10'"
+        );
+        let segments = body.bytes().filter(|&b| b == b'\'').count() + 1;
+        format!("{body}UNT+{segments}+{number}'")
+    };
+    let mut text = "UNB+UNOC:3+CLEANWELLS+ORDERBANK+240306:0705+CWF0306'".to_string();
+    let mut count = 0;
+    loop {
+        let next = message(count + 1);
+        if text.len() + next.len() + 40 > bytes && count > 0 {
+            break;
+        }
+        text.push_str(&next);
+        count += 1;
+    }
+    text.push_str(&format!("UNZ+{count}+CWF0306'"));
+    text.into_bytes()
 }
 
 /// Small envelopes in every combination: UNA and what may be wrong with it, UNB's version and reference,

@@ -24,7 +24,7 @@ const USAGE: &str = "usage:
   second lines < FILE                       the same lines for an interchange of any size, with long lists
   second compare [--driver WORDS] [--payreport WORDS] [--cases N] [--reports N] [--seed S]
                  [--show N] [--keep FOLDER] [--no-limits]
-  second generate [--seed S] [--kind realistic|good|damaged|rewritten] [--bytes N]
+  second generate [--seed S] [--kind realistic|regular|good|damaged|rewritten] [--bytes N]
 WORDS is one argument: a command and its arguments, separated by spaces.";
 
 fn wrong(what: &str) -> ! {
@@ -87,11 +87,12 @@ fn main() {
     std::process::exit(if well { 0 } else { 1 });
 }
 
-/// One interchange: good realistic messages just below so many bytes, or one input of the comparison.
+/// One interchange: good messages, realistic or all alike, just below so many bytes, or one input of the comparison.
 fn generate(kind: &str, seed: u64, bytes: usize) -> Vec<u8> {
     let mut random = random::Random::new(seed);
     match kind {
         "realistic" => inputs::realistic(&mut random, bytes),
+        "regular" => inputs::regular(bytes),
         "good" | "damaged" => loop {
             let input = inputs::random_input(&mut random);
             if input.good == (kind == "good") {

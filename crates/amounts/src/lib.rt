@@ -58,14 +58,23 @@ pub fn start() -> Amounts
     }
 }
 
-// Whether the amount of the MOA at `at` has the form.
-fn is_formed(m: &[u8], v: Service, at: usize) -> bool
-    ensures { λ r. ⌜ r ≡ isOf (amountOf (valueIn v at (now (m .entry)) 1 1)) ⌝ }
+// Whether an amount has the form.
+fn is_formed(amount: Amount) -> bool
+    ensures { λ r. ⌜ r ≡ isOf amount ⌝ }
 {
-    let amount = values::amount_in(m, at, v, 1, 1);
     match amount {
         Amount::Of(_) => true,
         Amount::Not => false,
+    }
+}
+
+// An amount as a number. One without the form counts 0.
+fn worth_of(amount: Amount) -> u64
+    ensures { λ r. ⌜ r ≡ worth amount ⌝ }
+{
+    match amount {
+        Amount::Of(n) => n,
+        Amount::Not => 0,
     }
 }
 
@@ -73,11 +82,7 @@ fn is_formed(m: &[u8], v: Service, at: usize) -> bool
 pub fn worth_at(m: &[u8], v: Service, at: usize) -> u64
     ensures { λ r. ⌜ r ≡ worth (amountOf (valueIn v at (now (m .entry)) 1 1)) ⌝ }
 {
-    let a = values::amount_in(m, at, v, 1, 1);
-    match a {
-        Amount::Of(n) => n,
-        Amount::Not => 0,
-    }
+    worth_of(values::amount_in(m, at, v, 1, 1))
 }
 
 // Whether the qualifier of the MOA at `at` is 57.
@@ -225,9 +230,9 @@ pub fn close(st: Amounts, m: &[u8], v: Service) -> Amounts
     next_order(st, m, v, no_order())
 }
 
-// The form of the amount of the MOA at `at`, the nth segment.
-fn formed(st: Amounts, m: &[u8], v: Service, at: usize, nth: usize) -> Amounts
-    ensures { λ r. ⌜ r ≡ withForm st (isOf (amountOf (valueIn v at (now (m .entry)) 1 1))) nth ⌝ }
+// The form of the amount of a MOA, the nth segment.
+fn formed(st: Amounts, amount: Amount, nth: usize) -> Amounts
+    ensures { λ r. ⌜ r ≡ withForm st (isOf amount) nth ⌝ }
 {
     let order = st.order;
     let f22 = st.first22;
@@ -235,7 +240,7 @@ fn formed(st: Amounts, m: &[u8], v: Service, at: usize, nth: usize) -> Amounts
     let first24 = st.first24;
     let first25 = st.first25;
     let first26 = st.first26;
-    let first22 = faults::keep(f22, is_formed(m, v, at), nth);
+    let first22 = faults::keep(f22, is_formed(amount), nth);
     Amounts {
         order,
         first22,
@@ -250,7 +255,8 @@ fn formed(st: Amounts, m: &[u8], v: Service, at: usize, nth: usize) -> Amounts
 fn order_moa(st: Amounts, m: &[u8], v: Service, at: usize, nth: usize) -> Amounts
     ensures { λ r. ⌜ r ≡ orderEnded v (now (m .entry)) (withForm st (isOf (amountOf (valueIn v at (now (m .entry)) 1 1))) nth) (orderOf true nth at false 0) ⌝ }
 {
-    let u = formed(st, m, v, at, nth);
+    let amount = values::amount_in(m, at, v, 1, 1);
+    let u = formed(st, amount, nth);
     let order = Order {
         live: true,
         nth,
@@ -290,9 +296,9 @@ fn exchange(st: Amounts, m: &[u8], v: Service, at: usize, nth: usize) -> Amounts
     }
 }
 
-// The sum, qualifier and currency of a payment's MOA.
-fn added(st: Amounts, m: &[u8], v: Service, at: usize, nth: usize) -> Amounts
-    ensures { λ r. ⌜ r ≡ paid v (now (m .entry)) st at nth ⌝ }
+// The sum, qualifier and currency of a payment's MOA of this amount.
+fn added(st: Amounts, m: &[u8], v: Service, at: usize, nth: usize, amount: Amount) -> Amounts
+    ensures { λ r. ⌜ r ≡ paid v (now (m .entry)) st at nth amount ⌝ }
 {
     let o = st.order;
     let first22 = st.first22;
@@ -301,7 +307,7 @@ fn added(st: Amounts, m: &[u8], v: Service, at: usize, nth: usize) -> Amounts
     let first25 = st.first25;
     let first26 = st.first26;
     let idle = truth::isnt(o.live);
-    let sum = add(o.sum, worth_at(m, v, at));
+    let sum = add(o.sum, worth_of(amount));
     let first23 = faults::keep(
         f23,
         truth::either(idle, values::same_in(m, at, v, 1, 0, o.at, 1, 0)),
@@ -330,10 +336,11 @@ fn added(st: Amounts, m: &[u8], v: Service, at: usize, nth: usize) -> Amounts
 
 // A payment's MOA.
 fn payment_moa(st: Amounts, m: &[u8], v: Service, at: usize, nth: usize) -> Amounts
-    ensures { λ r. ⌜ r ≡ paid v (now (m .entry)) (withForm st (isOf (amountOf (valueIn v at (now (m .entry)) 1 1))) nth) at nth ⌝ }
+    ensures { λ r. ⌜ r ≡ paid v (now (m .entry)) (withForm st (isOf (amountOf (valueIn v at (now (m .entry)) 1 1))) nth) at nth (amountOf (valueIn v at (now (m .entry)) 1 1)) ⌝ }
 {
-    let u = formed(st, m, v, at, nth);
-    added(u, m, v, at, nth)
+    let amount = values::amount_in(m, at, v, 1, 1);
+    let u = formed(st, amount, nth);
+    added(u, m, v, at, nth, amount)
 }
 
 // One segment, the nth.

@@ -1,23 +1,20 @@
 -- What the answer of placing says, and that there is no second one. Assumes nothing.
 use mathlib.Core.Path.{_≡_, refl, sym, ap, _∙_}
 use mathlib.Core.List.{List, [], _∷_, _++_}
-use mathlib.Core.Logic.{_⊎_}
-use Prim.Native.Nat.{ℕ, suc, _+_, _≤_, _<_}
+use Prim.Native.Nat.{ℕ}
 use native.Mathlib.Omega.{arith}
-use lib.ListN.{length, getD, take, drop-of-length-le}
-use lib.Seq.{split-at}
 use Rattle.service.specs.declared.Service.{Service}
 use Rattle.chart.specs.declared.Placed.{Placed}
 use Rattle.chart.specs.declared.Placed.the-variants.{Whole, Stuck}
-use Rattle.chart.specs.Chart.{Placement, Unplaced, Begins, FirstMisfit}
+use Rattle.chart.specs.Chart.{Placement, Unplaced, FirstMisfit}
 use Rattle.chart.specs.Table.{Table, chartOf}
-use Rattle.chart.specs.forms.Codes.{UNT}
+use Rattle.values.specs.forms.Codes.{UNT}
 use Rattle.chart.specs.forms.Sound.{Sound}
 use Rattle.chart.specs.Tags.{tagsOf}
 use Rattle.segments.specs.SegmentList.{startAt}
 use Rattle.chart.specs.forms.Next.{rowsOf}
 use Rattle.chart.specs.Answer.{StuckAt, Answers}
-use Rattle.chart.proofs.Theorems.{one-placement, one-fault, misfit-or-begins, closed-fails, closed-misfit}
+use Rattle.chart.proofs.Theorems.{one-fault, closed-fails, closed-misfit}
 use Rattle.chart.proofs.Whole.{fine}
 
 module _ (t : Table) (sd : Sound t) where

@@ -8,7 +8,7 @@ use Rattle.segments.specs.Classes.{classOf}
 use Rattle.chart.specs.Chart.{Reading, FirstMisfit}
 use Rattle.chart.specs.forms.Machine.{only, run, step, stepRows, free, freeRows, placed, stuck, choose, takes, owed, rowsBy}
 use Rattle.table.specs.Entries.{linesFrom, within, text}
-use Rattle.chart.specs.forms.Codes.{UNH, BGM, DTM, LIN, RFF, MOA, FII, SEQ, CNT, UNT}
+use Rattle.values.specs.forms.Codes.{UNH, BGM, DTM, LIN, RFF, MOA, FII, SEQ, CNT, UNT}
 use Rattle.chart.specs.Paymul.{PAYMUL, table, chart}
 use Rattle.chart.specs.forms.Rows.{rowsOf}
 use Rattle.chart.specs.Table.{chartOf, rowOver, inside}

@@ -1,16 +1,15 @@
 -- For any chart: where G guides, the rows of a placement come one by one, each from the one before it and its tag. Assumes nothing.
-use mathlib.Core.Path.{_≡_, refl, sym, ap, subst, _∙_}
-use mathlib.Core.Bool.{Bool, true, false, _&&_ as and, _||_ as or}
-use mathlib.Core.List.{List, [], _∷_, _++_, append-assoc, append-nil}
-use Prim.Native.Nat.{ℕ, zero, suc, _+_, _<_, _≤_}
+use mathlib.Core.Path.{_≡_, refl, sym, ap, _∙_}
+use mathlib.Core.Bool.{Bool, _&&_ as and, _||_ as or}
+use mathlib.Core.List.{List, [], _∷_}
+use Prim.Native.Nat.{ℕ, zero, suc, _<_}
 use native.Mathlib.Omega.{arith}
 use lib.Dec.{T, eqb, eqb→eq}
-use lib.ListN.{length, getD, take, length-append, List·getD-append}
-use lib.Seq.{length-take-le, getD-take}
+use lib.ListN.{length, getD}
 use Rattle.chart.specs.Chart.{Rows, none, row, Placement}
-use Rattle.chart.specs.forms.Machine.{only, Ends, Frames, done, frame, Step, at, fail, Out, placed, stuck, step, stepRows, free, run, agreeRows, agree, guides, guidesK, rowsBy, rowAfter}
+use Rattle.chart.specs.forms.Machine.{only, Ends, Frames, done, frame, Step, at, fail, step, stepRows, agreeRows, agree, guides, guidesK, rowsBy, rowAfter}
 use Rattle.chart.proofs.Theory.{View, place, owe, pass, view, at-fail, at-num, at-frames, step-place, step-owe, step-pass, and-left, and-right, and-make, or-cases, step-fail, step-on, step-fine, ends-free, Fine}
-use Rattle.chart.proofs.Plain.{placement-ends, placed-one}
+use Rattle.chart.proofs.Plain.{placement-ends}
 
 module _ (G : ℕ → ℕ → ℕ) where
   -- after a step to m: what G says from m on is right
@@ -107,18 +106,3 @@ module _ (G : ℕ → ℕ → ℕ) where
   unfolding rowAfter
   rows-after p ts zero h = sym (rows-first p ts h)
   rows-after p ts (suc i) h = ap (λ (m : ℕ). G m (getD ts (suc i) 0)) (rows-after p ts i (omega arith)) ∙ sym (rows-next p ts i h)
-
-  -- the tags before place i are all that matters to it
-  pub after-same : (p : ℕ) (ts us : List ℕ) (i : ℕ) → ((k : ℕ) → k < i → getD ts k 0 ≡ getD us k 0) → rowAfter G p ts i ≡ rowAfter G p us i
-  unfolding rowAfter
-  after-same p ts us zero h = refl
-  after-same p ts us (suc i) h = rw (after-same p ts us i (λ k lt. h k (omega arith)), h i (omega arith))
-
-  pub rows-begun : (p : ℕ) (ts : List ℕ) (j : ℕ) (tail : List ℕ) → j ≤ length ts → (k : ℕ) → k < j
-      → getD (rowsBy G p (take j ts ++ tail)) k 0 ≡ getD (rowsBy G p ts) k 0
-  rows-begun p ts j tail le k lt =
-      let len : length (take j ts) ≡ j = length-take-le j ts le in
-      let both : k < length (take j ts ++ tail) = simp length-append (omega arith) in
-      sym (rows-after p (take j ts ++ tail) k both)
-      ∙ after-same p (take j ts ++ tail) ts (suc k) (λ i h. let hi : i < length (take j ts) = omega arith in let hj : i < j = omega arith in List·getD-append (take j ts) tail 0 i hi ∙ getD-take j ts i 0 hj)
-      ∙ rows-after p ts k (omega arith)

@@ -1,7 +1,7 @@
 -- For any chart: placements as the document has them and as the machine counts them are the same; with that, what a run says of placements.
 -- Assumes nothing.
 use mathlib.Core.Path.{_≡_, refl, sym, ap, subst, subst₂, _∙_}
-use mathlib.Core.Bool.{Bool, true, false, not}
+use mathlib.Core.Bool.{Bool}
 use mathlib.Core.List.{List, [], _∷_, _++_, append-assoc, append-nil}
 use Prim.Native.Nat.{ℕ, zero, suc, _+_, _<_, _≤_}
 use native.Mathlib.Decide.{decLt}
@@ -10,8 +10,8 @@ use mathlib.Core.Logic.{_⊎_, inl, inr}
 use lib.Dec.{T}
 use lib.ListN.{length, take}
 use lib.Seq.{take-all}
-use Rattle.chart.specs.Chart.{Rows, none, row, Placement, no-rows, row-then, Occurrences, no-more, one-then, Begins, FirstMisfit, Unplaced, FailsAt}
-use Rattle.chart.specs.forms.Machine.{only, Goes, stop, skip, have, Frames, done, frame, Ends, ends, goes, Out, placed, stuck, run}
+use Rattle.chart.specs.Chart.{Rows, none, row, Placement, no-rows, row-then, Occurrences, no-more, one-then, Begins, FirstMisfit, FailsAt}
+use Rattle.chart.specs.forms.Machine.{only, Goes, stop, skip, have, Ends, ends, goes, Out, placed, stuck, run}
 use Rattle.chart.proofs.Theory.{Fine, Said, all, part, Stuck, said, run-of}
 
 mutual

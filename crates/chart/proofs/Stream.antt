@@ -1,11 +1,11 @@
 -- The rows of a message one by one: the loop that finds the row after a row, and what a loop over the segments knows. Assumes nothing.
 use mathlib.Core.Path.{_≡_, refl, sym, ap, _∙_}
 use mathlib.Core.Bool.{Bool, true, false}
-use mathlib.Core.List.{List, [], _∷_, _++_}
+use mathlib.Core.List.{List, [], _∷_}
 use Prim.Native.Nat.{ℕ, zero, suc, _+_, _-_, _<_, _≤_}
 use native.Mathlib.Omega.{arith}
 use lib.Dec.{ltb, eqb}
-use lib.ListN.{length, getD, take}
+use lib.ListN.{length, getD}
 use Rattle.service.specs.declared.Service.{Service}
 use Rattle.service.specs.Tests.{if}
 use borrow.Author.Tests.{ltb-true, lt-ltb, le-ltb, eq-eqb, ne-eqb}
@@ -21,7 +21,7 @@ use Rattle.segments.specs.SegmentList.{startsOf}
 use Rattle.chart.specs.laws.TagsLaws.{tags-past, same-count}
 use Rattle.chart.specs.forms.Cursor.{CursorIs, Stepped, Tagged, Stands}
 use Rattle.chart.specs.laws.CursorLaws.{passes, stands-first, stands-next, stands-lt, stands-tag, stands-at, stands-all}
-use Rattle.chart.proofs.Guide.{rows-first, rows-next, rows-after, rows-begun}
+use Rattle.chart.proofs.Guide.{rows-first, rows-next, rows-after}
 use Rattle.chart.proofs.Whole.{placed-rows}
 
 pick-bound : (b : Bool) {x y n : ℕ} → x ≤ n → y ≤ n → if b x y ≤ n

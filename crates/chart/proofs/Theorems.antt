@@ -3,16 +3,16 @@
 use mathlib.Core.Path.{_≡_, refl, sym, ap, subst, _∙_}
 use mathlib.Core.Bool.{Bool, true, false, not, _&&_ as and, _||_ as or}
 use mathlib.Core.List.{List, [], _∷_, _++_, map, map-append, append-assoc, append-nil}
-use mathlib.Core.Logic.{_⊎_, inl, inr, ⊎-elim}
-use Prim.Native.Nat.{ℕ, zero, suc, _+_, _-_, _<_, _≤_}
+use mathlib.Core.Logic.{_⊎_, inl, inr}
+use Prim.Native.Nat.{ℕ, suc, _+_, _-_, _<_}
 use native.Mathlib.Decide.{decLt}
 use native.Mathlib.Omega.{arith}
 use lib.Dec.{T, ltb, eqb, eqb→eq}
 use lib.ListN.{length, take, drop, take-append-drop}
 use lib.Seq.{take-add}
 use borrow.Author.Tests.{ltb-true, eq-eqb}
-use Rattle.chart.specs.Chart.{Rows, none, row, Placement, no-rows, row-then, Occurrences, no-more, one-then, Before, shorter, smaller, further, Reading, Unplaced, Begins, FirstMisfit, FailsAt}
-use Rattle.chart.specs.forms.Machine.{only, Decided, labels, lacking, closing, isNone, Frames, Ends, Step, at, fail, step, placed, stuck, run}
+use Rattle.chart.specs.Chart.{Rows, Placement, no-rows, row-then, Occurrences, no-more, one-then, Before, smaller, further, Reading, Unplaced, Begins, FirstMisfit, FailsAt}
+use Rattle.chart.specs.forms.Machine.{only, Decided, labels, lacking, closing, isNone, Frames, Ends, Step, at, fail, step}
 use Rattle.chart.proofs.Theory.{Fine, step-on, step-fail, step-fine, ends-free, and-left, and-right, nots, T-true, true-T, Said, all, part, said}
 use Rattle.chart.proofs.Plain.{placement-ends, ends-placement, stuck-fails}
 

@@ -1,15 +1,15 @@
 -- For any chart: what one step and a run of the machine say of what can be placed. Assumes nothing.
 use mathlib.Core.Path.{_≡_, refl, sym, ap, subst, _∙_}
 use mathlib.Core.Bool.{Bool, true, false, not, _&&_ as and, _||_ as or}
-use mathlib.Core.List.{List, [], _∷_, _++_, append-assoc, append-nil}
+use mathlib.Core.List.{List, [], _∷_, _++_}
 use Prim.Native.Nat.{ℕ, zero, suc, _+_, _<_, _≤_}
 use native.Mathlib.Omega.{arith}
-use lib.Dec.{T, ltb, leb, eqb}
-use lib.ListN.{length, length-append, take}
-use borrow.Author.Tests.{ltb-true, ltb-false, eqb-true, eqb-false, lt-ltb, le-ltb, eq-eqb, ne-eqb}
+use lib.Dec.{T, ltb, eqb}
+use lib.ListN.{length, take}
+use borrow.Author.Tests.{ltb-true, eqb-true, eqb-false, lt-ltb, eq-eqb, ne-eqb}
 use Rattle.service.specs.Tests.{if}
 use Rattle.chart.specs.Chart.{Rows, none, row}
-use Rattle.chart.specs.forms.Machine.{Goes, stop, skip, have, Frames, done, frame, Ends, ends, goes, Step, at, fail, Out, placed, stuck, choose, takes, owed, stepRows, step, freeRows, free, run, mayRows, may, after, doubt, clash, det, good, detK, goodK}
+use Rattle.chart.specs.forms.Machine.{Goes, stop, skip, have, Frames, done, frame, Ends, ends, goes, Step, at, fail, placed, stuck, choose, takes, owed, stepRows, step, freeRows, free, run, mayRows, may, after, doubt, clash, det, good, detK, goodK}
 
 -- BOOLEANS
 pub and-left : (a b : Bool) → T (and a b) → T a
@@ -408,9 +408,6 @@ free-owe c num tag req most kids rest b e = rw (e, choose)
 pub free-pass : (c num tag : ℕ) (req : Bool) (most : ℕ) (kids rest : Rows) (b : Bool) → owed req c ≡ false → freeRows c (row num tag req most kids rest) b ≡ freeRows zero rest b
 unfolding freeRows choose
 free-pass c num tag req most kids rest b e = rw (e, choose)
-
-abbrev Nil : List ℕ → Type 0
-Nil ns = ns ≡ []
 
 free-rows : (c : ℕ) (rows : Rows) (K : Frames) (ns us ms : List ℕ) → ((ns : List ℕ) → Ends K [] ns → T (free K) × (ns ≡ [])) → Goes c rows [] ns us ms → Ends K us ms
     → T (freeRows c rows (free K)) × (ns ≡ [])

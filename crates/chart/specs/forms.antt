@@ -1,4 +1,3 @@
-pub mod Codes
 pub mod Columns
 pub mod Cursor
 pub mod Machine

@@ -1,3 +1,2 @@
-pub mod CodesLaws
 pub mod CursorLaws
 pub mod TagsLaws

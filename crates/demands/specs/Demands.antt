@@ -7,9 +7,9 @@ use lib.ListN.{length}
 use Rattle.service.specs.declared.Service.{Service}
 use Rattle.values.specs.Exactly.{Exactly}
 use Rattle.interchange.specs.declared.Refusal.{Refusal}
-use Rattle.interchange.specs.declared.Opening.the-variants.{Opens}
 use Rattle.interchange.specs.Messages.{Extent, closed, messagesOf}
-use Rattle.interchange.specs.Envelope.{openingOf, bodyOf}
+use Rattle.interchange.specs.Envelope.{bodyOf}
+use Rattle.interchange.specs.Opened.{Opened}
 use Rattle.interchange.specs.Damage.{lastClosed}
 use Rattle.lent.specs.Lists.{Lists}
 use Rattle.report.specs.declared.Counts.{Counts}
@@ -48,13 +48,13 @@ pub record Demands : Type 0 where
   -- "Equal values, trailing empties aside, exactly when equal rewritten bytes"
   pub equal-values : (s s′ : List ℕ) → Exactly (valuesOf s ≡ valuesOf s′) (rewritten s ≡ rewritten s′)
   -- "A message keeps its refusal number and segment": an interchange that opens, and whose plain bytes are no more than an interchange may have
-  pub rewriting : (s : List ℕ) (v : Service) (first : ℕ) → openingOf s ≡ Opens v first → length (rewritten s) ≤ 1048576 → Keeps s v first
+  pub rewriting : (s : List ℕ) (v : Service) (first : ℕ) → Opened s v first → length (rewritten s) ≤ 1048576 → Keeps s v first
   -- ---- demand 3: "Damage to one message, from its UNH up to but excluding the terminator before its UNT, leaves each other message found, in order, with the report
   -- of its own bytes."
   pub damage : (s : List ℕ) (v : Service) (first : ℕ) (before : List Extent) (a t e : ℕ) (after : List Extent) → Chosen s v first before a t e after
       → (p q : ℕ) (d s′ : List ℕ) → Damaged s a t p q d s′ → Unharmed v s s′ first a before after
   -- of every message that has its own UNT, as has the one before it, if there is one; and why that is asked of the one before
-  pub any : (s : List ℕ) (v : Service) (first : ℕ) (before : List Extent) (a e : ℕ) (after : List Extent) → openingOf s ≡ Opens v first
+  pub any : (s : List ℕ) (v : Service) (first : ℕ) (before : List Extent) (a e : ℕ) (after : List Extent) → Opened s v first
       → messagesOf v s (bodyOf v s first) ≡ before ++ (closed a e ∷ after) → lastClosed true before ≡ true → (t : ℕ) × Chosen s v first before a t e after
   pub predecessor : Predecessor
   -- ---- "How firm the answers are": "no second answer satisfies it"; "These must not get through"; and "Cases": "twelve rows under a single statement"

@@ -1,6 +1,6 @@
 -- "prove that no second answer satisfies it": every public function of every crate, what its contract says of the answer, and that two answers that meet it are one,
 -- the final content of lent lists included. Where the answer is one up to something alone, the field says what is one; docs/DECISIONS.md says why.
-use Prim.Native.Nat.{ℕ, _%_, _≤_}
+use Prim.Native.Nat.{ℕ, _%_}
 use mathlib.Core.Path.{_≡_}
 use mathlib.Core.List.{List}
 use mathlib.Core.Bool.{Bool, false, not, _&&_, _||_}
@@ -17,7 +17,9 @@ use Rattle.values.specs.Numbers.{valueFrom, valueIn}
 use Rattle.values.specs.Text.{sameList}
 use Rattle.values.specs.forms.Values.{codeOf, amountOf, isCapitals, numberOf, isNumber}
 use Rattle.interchange.specs.Messages.{foundFrom}
-use Rattle.interchange.specs.Envelope.{isReference, refusal, openingNumber, openingOf, closingOf}
+use Rattle.interchange.specs.Envelope.{isReference, refusal}
+use Rattle.interchange.specs.Opened.{OpenedAs}
+use Rattle.interchange.specs.Closed.{ClosedAs}
 use Rattle.faults.specs.declared.First.{First}
 use Rattle.faults.specs.declared.Fault.{Fault}
 use Rattle.faults.specs.Firsts.{lesser, placeUnless, numberFirst}
@@ -44,7 +46,7 @@ use Rattle.details.specs.declared.Details.{Details}
 use Rattle.details.specs.forms.Steps.{detailsStart, detailsStep, detailsClose}
 use Rattle.trailer.specs.declared.Trailer.{Trailer}
 use Rattle.trailer.specs.forms.Steps.{trailerStart, trailerStep}
-use Rattle.listing.specs.Listing.{rowsAfter, startsAfter, totalsAfter}
+use Rattle.listing.specs.Listing.{listsAfter}
 use Rattle.chart.specs.Paymul.{PAYMUL}
 use Rattle.report.specs.declared.Report.{Report}
 use Rattle.report.specs.Reported.{Reported}
@@ -52,7 +54,7 @@ use Rattle.walk.specs.Walks.{Walks}
 use Rattle.rewrite.specs.declared.Rewriting.{Rewriting}
 use Rattle.rewrite.specs.Plain.{rewritingOf, roomAfter}
 use Rattle.twineherald.specs.declared.RewritingNumbers.{RewritingNumbers}
-use Rattle.twineherald.specs.Numbers.{closingNumbers, Stepped, Checked, Rewritten}
+use Rattle.twineherald.specs.Numbers.{OpenedWith, ClosedWith, Stepped, Checked, Rewritten}
 
 -- a contract that no two answers meet
 abbrev pub Only : {A : Type 0} → (A → Type 0) → Type 0
@@ -109,9 +111,9 @@ pub record OneAnswer : Type 0 where
   -- interchange
   pub interchange-refuse : (number : ℕ) → OnlyIs (refusal number)
   pub interchange-is-reference : (n : ℕ) → OnlyIs (isReference n)
-  pub interchange-open : (s : List ℕ) → OnlyIs (openingOf s)
+  pub interchange-open : (s : List ℕ) → Only (OpenedAs s)
   pub interchange-find : (s : List ℕ) (at : ℕ) (v : Service) → OnlyIs (foundFrom v s at)
-  pub interchange-close : (s : List ℕ) → OnlyIs (closingOf s)
+  pub interchange-close : (s : List ℕ) → Only (ClosedAs s)
   -- faults
   pub faults-earlier : (a b : First) → OnlyIs (lesser a b)
   pub faults-unless : (holds : Bool) (at : ℕ) → OnlyIs (placeUnless holds at)
@@ -159,9 +161,7 @@ pub record OneAnswer : Type 0 where
   -- rules
   pub rules-judge : (m : List ℕ) (v : Service) (t : List (List ℕ)) (segments orders : ℕ) → OnlyIs (leastOf (tellAll (paymulOf segments orders (placedOn t v m))))
   -- listing: what the lists are after it
-  pub listing-put-segments-rows : (m : List ℕ) (v : Service) (n : ℕ) (r s : List ℕ) → OnlyIs (rowsAfter PAYMUL v m n r s)
-  pub listing-put-segments-starts : (m : List ℕ) (v : Service) (n : ℕ) (r s : List ℕ) → OnlyIs (startsAfter v m n r s)
-  pub listing-put-totals : (m : List ℕ) (v : Service) (n : ℕ) (t : List ℕ) → OnlyIs (totalsAfter PAYMUL v m n t)
+  pub listing-put-lists : (m : List ℕ) (v : Service) (t : List (List ℕ)) (segments orders : ℕ) (x : Lists) → OnlyIs (listsAfter t v m segments orders x)
   -- report
   pub report-check : (m : List ℕ) (v : Service) → OnlyWith (Reported v m)
   -- walk
@@ -173,8 +173,8 @@ pub record OneAnswer : Type 0 where
   pub lines-end-line : (messages accepted strays closing : ℕ) → OnlyLine (endLine messages accepted strays closing)
   pub lines-open-line : (number : ℕ) → OnlyLine (openLine number)
   -- twineherald
-  pub twineherald-open : (b : List ℕ) → OnlyIs (openingNumber (openingOf b))
+  pub twineherald-open : (b : List ℕ) → Only (OpenedWith b)
   pub twineherald-walk : (b : List ℕ) (at : ℕ) → OnlyWith (Stepped b at)
   pub twineherald-check : (h m : List ℕ) → OnlyWith (Checked h m)
-  pub twineherald-close : (b : List ℕ) → OnlyIs (closingNumbers (closingOf b))
+  pub twineherald-close : (b : List ℕ) → Only (ClosedWith b)
   pub twineherald-rewrite : (b o o1 o2 : List ℕ) (x y : RewritingNumbers) → Rewritten b x o o1 → Rewritten b y o o2 → filled x o1 ≡ filled y o2

@@ -4,9 +4,9 @@ use mathlib.Core.Path.{_≡_}
 use mathlib.Core.List.{List, [], _∷_, _++_, map}
 use lib.ListN.{length}
 use Rattle.service.specs.declared.Service.{Service}
-use Rattle.interchange.specs.declared.Opening.the-variants.{Opens}
 use Rattle.interchange.specs.Messages.{Extent, startsAt, endsAt}
-use Rattle.interchange.specs.Envelope.{openingOf, bodyOf}
+use Rattle.interchange.specs.Envelope.{bodyOf}
+use Rattle.interchange.specs.Opened.{Opened}
 use Rattle.interchange.specs.Damage.{Target, replaced, shifted}
 use Rattle.lent.specs.Lists.{Lists, Left}
 use Rattle.report.specs.declared.Report.{Report}
@@ -17,7 +17,7 @@ use Rattle.demands.specs.Runs.{Visit, Run, Steps, Owned, Over, moved}
 -- "Take an interchange that opens and a message in it that has its own UNT, as has the message before it, if there is one": the message from a up to
 -- e, with the messages before and after it; t is the terminator before its UNT
 pub record Chosen (s : List ℕ) (v : Service) (first : ℕ) (before : List Extent) (a t e : ℕ) (after : List Extent) : Type 0 where
-  pub opens : openingOf s ≡ Opens v first
+  pub opens : Opened s v first
   pub target : Target v s (bodyOf v s first) before a t e after
 
 -- "Replace any stretch of that message, from its UNH up to but excluding the terminator before its UNT, by other bytes of whatever number, the whole
@@ -57,7 +57,7 @@ pub data SameReports (s s′ : List ℕ) : List Extent → List Extent → Type 
 -- "Each other message is still found, in the same order, and with the same lent room its report is the one demand 2 gives to its own bytes."
 pub record Unharmed (v : Service) (s s′ : List ℕ) (first a : ℕ) (before after : List Extent) : Type 0 where
   -- the interchange opens as it did
-  pub opens : openingOf s′ ≡ Opens v first
+  pub opens : Opened s′ v first
   -- what is found in the damaged place
   pub between : List Extent
   -- the walk from the first byte on finds these, and then that none is left

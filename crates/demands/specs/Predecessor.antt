@@ -4,9 +4,9 @@ use mathlib.Core.Path.{_≡_}
 use mathlib.Core.List.{List, [], _∷_, _++_}
 use Rattle.service.specs.Service.{plainService}
 use Rattle.values.specs.Text.{text}
-use Rattle.interchange.specs.declared.Opening.the-variants.{Opens}
 use Rattle.interchange.specs.Messages.{closed, unclosed, messagesOf}
-use Rattle.interchange.specs.Envelope.{openingOf, bodyOf}
+use Rattle.interchange.specs.Envelope.{bodyOf}
+use Rattle.interchange.specs.Opened.{Opened}
 use Rattle.interchange.specs.Damage.{Before}
 use Rattle.demands.specs.OtherMessages.{Damaged, Unharmed}
 
@@ -22,11 +22,11 @@ hurt = around (text "FTX")
 
 pub record Predecessor : Type 0 where
   -- all that `Chosen` asks for of the second message, but for the message before it
-  pub opens : openingOf whole ≡ Opens plainService 0
+  pub opens : Opened whole plainService 0
   pub was : messagesOf plainService whole (bodyOf plainService whole 0) ≡ unclosed 21 27 ∷ closed 27 45 ∷ closed 45 59 ∷ []
   pub precedes : Before 36 44 (bodyOf plainService whole 0)
   pub damaged : Damaged whole 27 36 27 36 (text "FTX") hurt
   -- the first message now ends with the second's UNT
-  pub opens-still : openingOf hurt ≡ Opens plainService 0
+  pub opens-still : Opened hurt plainService 0
   pub is : messagesOf plainService hurt (bodyOf plainService hurt 0) ≡ closed 21 39 ∷ closed 39 53 ∷ []
   pub harmed : Unharmed plainService whole hurt 0 27 (unclosed 21 27 ∷ []) (closed 45 59 ∷ []) → ⊥

@@ -12,7 +12,9 @@ use Rattle.service.specs.Service.{among, charactersOf}
 use Rattle.segments.specs.SegmentList.{segmentsFrom, startAt, endAt}
 use Rattle.interchange.specs.declared.Refusal.{Refusal}
 use Rattle.interchange.specs.declared.Opening.the-variants as o
-use Rattle.interchange.specs.Envelope.{openingNumber, openingOf, closingOf}
+use Rattle.interchange.specs.declared.Closing.{Closing}
+use Rattle.interchange.specs.Opened.{OpenedAs}
+use Rattle.interchange.specs.Closed.{ClosedAs}
 use Rattle.lent.specs.Lists.{Lists}
 use Rattle.report.specs.declared.Counts.{Counts}
 use Rattle.report.specs.declared.Report.the-variants as report
@@ -24,7 +26,8 @@ use Rattle.rewrite.specs.Plain.{rewritingOf, roomAfter}
 use Rattle.twineherald.specs.declared.ReportNumbers.{ReportNumbers}
 use Rattle.twineherald.specs.declared.StepNumbers.{StepNumbers}
 use Rattle.twineherald.specs.declared.RewritingNumbers.{RewritingNumbers}
-use Rattle.twineherald.specs.Numbers.{closingNumbers, Stepped, Checked, Rewritten}
+use Rattle.twineherald.specs.declared.ClosingNumbers.{ClosingNumbers}
+use Rattle.twineherald.specs.Numbers.{OpenedWith, ClosedWith, Stepped, Checked, Rewritten}
 
 -- ---- the table's numbers by the call that gives them
 -- "Numbers 1 to 4 are found in that order by opening"
@@ -93,8 +96,8 @@ countsIn y = record { segments = y .segments; orders = y .orders; payments = y .
 
 pub record Refusals : Type 0 where
   -- interchange: open and close are lent nothing for output; closing has number 0 if nothing is wrong
-  pub opening : (s : List ℕ) (f : Refusal) → openingOf s ≡ o.Refused f → Nowhere byOpening f
-  pub closing : (s : List ℕ) → among (closingOf s .number) (0 ∷ byClosing) ≡ true
+  pub opening : (s : List ℕ) (f : Refusal) → OpenedAs s (o.Refused f) → Nowhere byOpening f
+  pub closing : (s : List ℕ) (c : Closing) → ClosedAs s c → among (c .number) (0 ∷ byClosing) ≡ true
   -- report: check
   pub checking : (v : Service) (m : List ℕ) (x x′ : Lists) (f : Refusal) → Reported v m x x′ (report.Refused f) → Tabled v m f × (x′ ≡ x)
   pub check-beyond : (v : Service) (m : List ℕ) (x x′ : Lists) (c : Counts) → Reported v m x x′ (report.Accepted c) → Beyond c x x′
@@ -107,8 +110,8 @@ pub record Refusals : Type 0 where
   pub rewriting : (s o : List ℕ) (f : Refusal) → rewritingOf s (length o) ≡ w.Refused f → Nowhere byRewriting f × (roomAfter s o ≡ o)
   pub rewrite-beyond : (s o : List ℕ) (n : ℕ) → rewritingOf s (length o) ≡ w.Written n → drop n (roomAfter s o) ≡ drop n o
   -- the five calls for C, in which number 0 is no refusal
-  pub c-open : (b : List ℕ) → among (openingNumber (openingOf b)) (0 ∷ byOpening) ≡ true
-  pub c-close : (b : List ℕ) → among (closingNumbers (closingOf b) .number) (0 ∷ byClosing) ≡ true
+  pub c-open : (b : List ℕ) (x : ℕ) → OpenedWith b x → among x (0 ∷ byOpening) ≡ true
+  pub c-close : (b : List ℕ) (y : ClosingNumbers) → ClosedWith b y → among (y .number) (0 ∷ byClosing) ≡ true
   pub c-check : (h m : List ℕ) (x x′ : Lists) (y : ReportNumbers) → Checked h m x x′ y → (y .number ≡ 0 → ⊥)
       → (Nowhere (2 ∷ []) (refusalIn y) ⊎ TabledIn h m (refusalIn y)) × (x′ ≡ x)
   pub c-walk : (b : List ℕ) (at : ℕ) (x x′ : Lists) (y : StepNumbers) → Stepped b at x x′ y → (y .report .number ≡ 0 → ⊥)

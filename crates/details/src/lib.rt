@@ -1,9 +1,7 @@
 // The details of a payment, told by the PRC of its SG16: rule 28.
 ghost use mathlib.Core.Path.{_≡_};
-ghost use mathlib.Core.Bool.{true, false, not, _&&_, _||_};
+ghost use mathlib.Core.Bool.{true, false, not, _&&_};
 ghost use Rattle.faults.specs.Firsts.{lesser};
-ghost use Rattle.values.specs.forms.Values.{codeOf};
-ghost use Rattle.values.specs.Numbers.{valueIn};
 ghost use Rattle.faults.specs.declared.First.the-variants as First;
 ghost use Rattle.message.specs.Segs.{segAt};
 ghost use Rattle.details.specs.forms.Steps.{commonOf, groupOf, commonComes, groupHolds, groupComes, detailsOf, detailsStart, detailsStep, detailsClose, withOrder, groupEnded};

@@ -2,20 +2,19 @@
 use Prim.Native.Nat.{ℕ, _+_, _-_, _≤_}
 use mathlib.Core.Path.{_≡_}
 use mathlib.Core.List.{List, [], _∷_, _++_, map}
-use mathlib.Core.Bool.{Bool, true, false}
+use mathlib.Core.Bool.{Bool, true}
 use lib.ListN.{length, take, drop}
 use Rattle.service.specs.declared.Service.{Service}
+use Rattle.service.specs.Tests.{lastOf}
 use Rattle.segments.specs.SegmentList.{Piece, finished}
-use Rattle.interchange.specs.declared.Opening.the-variants.{Opens}
-use Rattle.interchange.specs.Messages.{Extent, closed, unclosed, startsAt, endsAt, messagesOf}
-use Rattle.interchange.specs.Envelope.{openingOf, bodyOf}
+use Rattle.interchange.specs.Messages.{Extent, closed, unclosed, isClosed, startsAt, endsAt, messagesOf}
+use Rattle.interchange.specs.Envelope.{bodyOf}
+use Rattle.interchange.specs.Opened.{Opened}
 use Rattle.interchange.specs.Walk.{Visits, Own}
 
 -- whether the last of some messages is closed, or, of none, what is given
-unfoldable pub lastClosed : Bool → List Extent → Bool
-lastClosed b [] = b
-lastClosed b (closed a e ∷ l) = lastClosed true l
-lastClosed b (unclosed a e ∷ l) = lastClosed false l
+abbrev pub lastClosed : Bool → List Extent → Bool
+lastClosed b l = lastOf b (map isClosed l)
 
 -- two finished segments one after the other: the terminator of the first at t, that of the second at z
 pub data Before (t z : ℕ) : List Piece → Type 0 where
@@ -63,7 +62,7 @@ pub record Kept (v : Service) (s s′ : List ℕ) (l′ : List Piece) (before af
 -- the damaged interchange opens as it did, its messages are kept, the walk from its first byte visits exactly them, and each is found at its own
 -- first byte
 pub record Survives (v : Service) (s s′ : List ℕ) (first : ℕ) (before after : List Extent) : Type 0 where
-  pub opens : openingOf s′ ≡ Opens v first
+  pub opens : Opened s′ v first
   pub kept : Kept v s s′ (bodyOf v s′ first) before after
   pub walks : Visits v s′ 0 (before ++ (kept .between ++ map (shifted (length s) (length s′)) after))
   pub owns : Own v s′ (before ++ (kept .between ++ map (shifted (length s) (length s′)) after))

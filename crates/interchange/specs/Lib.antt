@@ -1,6 +1,7 @@
 pub mod Messages
 pub mod Envelope
 pub mod Opened
+pub mod Closed
 pub mod Walk
 pub mod Damage
 pub mod Alike

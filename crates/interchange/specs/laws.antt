@@ -1,13 +1,16 @@
 pub mod AlikeLaws
 pub mod BeforeLaws
 pub mod CloseLaws
+pub mod ClosingLaws
 pub mod DamageLaws
 pub mod DamageTheorem
+pub mod EndedLaws
 pub mod FindLaws
 pub mod FirstLaws
 pub mod KeptTheorem
 pub mod KindLaws
 pub mod MessageLaws
+pub mod NearLaws
 pub mod OpenLaws
 pub mod OpenedLaws
 pub mod OwnLaws
@@ -17,6 +20,7 @@ pub mod ShiftLaws
 pub mod SurveyLaws
 pub mod TagLaws
 pub mod TargetLaws
+pub mod TellsLaws
 pub mod WalkLaws
 pub mod WalkTheorems
 pub mod WithinLaws

@@ -3,8 +3,11 @@ ghost use mathlib.Core.Path.{_≡_};
 ghost use Rattle.segments.specs.SegmentList.{segmentsFrom};
 ghost use Rattle.values.specs.forms.Values.{codeOf};
 ghost use Rattle.interchange.specs.Messages.{tagAt, foundFrom};
-ghost use Rattle.interchange.specs.Envelope.{isReference, isHeader, ended, firstAt, refusal, openedBy, openingOf, closingNumber, closingOf};
-ghost use Rattle.interchange.specs.forms.Kinds.{isEnd};
+ghost use Rattle.interchange.specs.Envelope.{isReference, isHeader, ended, firstAt, refusal, closingWithout};
+ghost use Rattle.interchange.specs.Opened.{OpenedAs};
+ghost use Rattle.interchange.specs.Closed.{ClosedAs};
+ghost use Rattle.interchange.specs.forms.Answers.{openedBy, closingNumber, closingBy};
+ghost use Rattle.interchange.specs.forms.Kinds.{Tells, isEnd};
 ghost use Rattle.interchange.specs.forms.Found.{endFound};
 ghost use Rattle.interchange.specs.forms.Survey.{Surveyed, pastAt};
 use segments::Segment;
@@ -42,6 +45,8 @@ pub struct Survey {
     pub strays: u64,
     // Where the end UNZ begins.
     pub end: usize,
+    // Whether there is one.
+    pub ended: bool,
 }
 
 // What closing says: 0 or the number of a refusal, with the messages and the strays.
@@ -91,11 +96,33 @@ fn is_header(s: &[u8], at: usize, v: Service) -> bool
     false
 }
 
+// Where one of the last segments begins, or `at`: a terminator with no release just before it ends a segment, whatever stands before.
+fn near_end(s: &[u8], at: usize, v: Service) -> usize
+    ensures { λ r. ⌜ ended v (now (s .entry)) (segmentsFrom v (now (s .entry)) at) ≡ ended v (now (s .entry)) (segmentsFrom v (now (s .entry)) r) ⌝ }
+{
+    if s.len() < 2 {
+        return at;
+    }
+    let mut i = s.len() - 1;
+    while at < i {
+        if s[i] == v.terminator {
+            if s[i - 1] != v.release {
+                let next = segments::skip_breaks(s, i + 1);
+                if next < s.len() {
+                    return next;
+                }
+            }
+        }
+        i -= 1;
+    }
+    at
+}
+
 // Whether the last of the segments from `at` on is a finished UNZ.
 fn ends_with_unz(s: &[u8], at: usize, v: Service) -> bool
     ensures { λ r. ⌜ r ≡ ended v (now (s .entry)) (segmentsFrom v (now (s .entry)) at) ⌝ }
 {
-    let mut i = at;
+    let mut i = near_end(s, at, v);
     let mut last = false;
     loop {
         let g = segments::segment_at(s, i, v);
@@ -139,7 +166,7 @@ fn open_with(s: &[u8], v: Service, una: usize) -> Opening
 
 // Whether the bytes are an interchange that opens.
 pub fn open(s: &[u8]) -> Opening
-    ensures { λ r. ⌜ r ≡ openingOf (now (s .entry)) ⌝ }
+    ensures { λ r. ⌜ OpenedAs (now (s .entry)) r ⌝ }
 {
     if MOST < s.len() {
         return Opening::Refused(refuse(1));
@@ -149,6 +176,21 @@ pub fn open(s: &[u8]) -> Opening
         Characters::Fit(v, una) => open_with(s, v, una),
         Characters::Unfit => Opening::Refused(refuse(2)),
     }
+}
+
+// Tells whether the tag of the segment that begins at `at` is UNH, UNT or UNZ: its code, or 0 if its first byte is neither a U nor a release.
+fn service_tag(s: &[u8], at: usize, v: Service) -> u64
+    ensures { λ r. ⌜ Tells (tagAt v (now (s .entry)) at) r ⌝ }
+{
+    if at < s.len() {
+        let b = s[at];
+        if b != b'U' {
+            if b != v.release {
+                return 0;
+            }
+        }
+    }
+    tag_at(s, at, v)
 }
 
 // Whether a UNZ whose segment the next one would follow at `next` is the end: nothing but breaks stands there.
@@ -170,7 +212,7 @@ fn find_end(s: &[u8], start: usize, from: usize, v: Service) -> Found
         let g = segments::segment_at(s, i, v);
         match g {
             Segment::Finished(t, next) => {
-                let tag = tag_at(s, i, v);
+                let tag = service_tag(s, i, v);
                 if tag == codes::UNT {
                     return Found::Message(start, t + 1);
                 }
@@ -201,7 +243,7 @@ pub fn find(s: &[u8], at: usize, v: Service) -> Found
         let g = segments::segment_at(s, i, v);
         match g {
             Segment::Finished(_, next) => {
-                if tag_at(s, i, v) == codes::UNH {
+                if service_tag(s, i, v) == codes::UNH {
                     return find_end(s, i, next, v);
                 }
                 i = next;
@@ -231,14 +273,16 @@ fn survey_of(s: &[u8], at: usize, v: Service) -> Survey
                 messages,
                 strays,
                 end: i,
+                ended: false,
             };
         };
-        let tag = tag_at(s, i, v);
+        let tag = service_tag(s, i, v);
         if is_end(s, tag, next) {
             return Survey {
                 messages,
                 strays,
                 end: i,
+                ended: true,
             };
         }
         if tag == codes::UNH {
@@ -270,26 +314,47 @@ fn closing_number(s: &[u8], first: usize, found: Survey, v: Service) -> u32
     5
 }
 
-// Counts the messages and the strays, and compares the UNZ with them and with the UNB.
-pub fn close(s: &[u8]) -> Closing
-    ensures { λ r. ⌜ r ≡ closingOf (now (s .entry)) ⌝ }
+// The closing of an interchange that does not open.
+fn unopened(number: u32) -> Closing
+    ensures { λ r. ⌜ r ≡ closingWithout number ⌝ }
 {
-    let o = open(s);
-    match o {
-        Opening::Refused(r) => Closing {
-            number: r.number,
-            messages: 0,
-            strays: 0,
-        },
-        Opening::Opens(v, first) => {
-            let found = survey_of(s, past(s, first, v), v);
+    Closing {
+        number,
+        messages: 0,
+        strays: 0,
+    }
+}
+
+fn close_with(s: &[u8], v: Service, una: usize) -> Closing
+    ensures { λ r. ⌜ r ≡ closingBy (now (s .entry)) (openedBy v (now (s .entry)) (firstAt (now (s .entry)) una)) ⌝ }
+{
+    let first = first_segment(s, una);
+    if is_header(s, first, v) {
+        let found = survey_of(s, past(s, first, v), v);
+        if found.ended {
             let number = closing_number(s, first, found, v);
-            Closing {
+            return Closing {
                 number,
                 messages: found.messages,
                 strays: found.strays,
-            }
+            };
         }
+        return unopened(4);
+    }
+    unopened(3)
+}
+
+// Counts the messages and the strays, and compares the UNZ with them and with the UNB: one walk over the segments, which also finds 4.
+pub fn close(s: &[u8]) -> Closing
+    ensures { λ r. ⌜ ClosedAs (now (s .entry)) r ⌝ }
+{
+    if MOST < s.len() {
+        return unopened(1);
+    }
+    let c = service::characters_of(s);
+    match c {
+        Characters::Fit(v, una) => close_with(s, v, una),
+        Characters::Unfit => unopened(2),
     }
 }
 

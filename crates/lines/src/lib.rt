@@ -1,5 +1,5 @@
 // The lines of the report program as bytes.
-ghost use Prim.Native.Nat.{_+_, _≤_};
+ghost use Prim.Native.Nat.{_≤_};
 ghost use mathlib.Core.List.{[], _∷_, _++_};
 ghost use lib.ListN.{length};
 ghost use Rattle.lent.specs.forms.Puts.{Puts};

@@ -1,2 +1,2 @@
-pub mod Segments
 pub mod Totals
+pub mod Segments

@@ -1,5 +1,5 @@
 -- A segment's elements, components and values, as document 01, "Bytes to segments", says.
-use Prim.Native.Nat.{ℕ, suc, zero}
+use Prim.Native.Nat.{ℕ, suc}
 use mathlib.Core.List.{List, [], _∷_}
 use mathlib.Core.Bool.{Bool, true, false, not, _||_}
 use lib.ListN.{getD, drop}

@@ -1,7 +1,7 @@
 // A segment's elements and components: tokens, and the position of a component.
 ghost use mathlib.Core.Path.{_≡_};
-ghost use mathlib.Core.Bool.{Bool, true, false};
-ghost use lib.ListN.{length, take, drop};
+ghost use mathlib.Core.Bool.{false};
+ghost use lib.ListN.{drop};
 ghost use Rattle.parts.specs.forms.Lex.{tokenAt, elemAt, compAt};
 ghost use Rattle.parts.specs.Parts.{lex, valueOf, elements, valueAt};
 use segments::Class;

@@ -6,7 +6,9 @@ use lib.ListN.{length}
 use Rattle.service.specs.declared.Service.{Service}
 use Rattle.interchange.specs.declared.Refusal.{Refusal}
 use Rattle.interchange.specs.declared.Opening.the-variants as opening
-use Rattle.interchange.specs.Envelope.{openingOf, closingOf}
+use Rattle.interchange.specs.declared.Closing.{Closing}
+use Rattle.interchange.specs.Opened.{OpenedAs}
+use Rattle.interchange.specs.Closed.{ClosedAs}
 use Rattle.lent.specs.Lists.{Lists}
 use Rattle.lines.specs.Lines.{messageLine, endLine, openLine}
 use Rattle.report.specs.declared.Report.{Report}
@@ -25,7 +27,7 @@ pub record Opened (s : List ℕ) : Type 0 where
   pub characters : Service
   pub first : ℕ
   pub short : length s ≤ 32768
-  pub opens : openingOf s ≡ opening.Opens characters first
+  pub opens : OpenedAs s (opening.Opens characters first)
 
 -- "with lists for 2,000 segments and 400 orders": what the walk tells of the next message from a position on, which ends before e
 pub data Judged (s : List ℕ) (at e : ℕ) (told : Report) : Type 0 where
@@ -48,8 +50,8 @@ pub data LineOf (s : List ℕ) : List ℕ → Type 0 where
   -- "at most 32,768 bytes, beyond which it prints `OPEN NO 1`"
   long : 32768 < length s → LineOf s (openLine 1)
   -- "A failed opening prints only `OPEN NO` and its number."
-  unopened : (f : Refusal) → length s ≤ 32768 → openingOf s ≡ opening.Refused f → LineOf s (openLine (f .number))
+  unopened : (f : Refusal) → length s ≤ 32768 → OpenedAs s (opening.Refused f) → LineOf s (openLine (f .number))
   -- "MSG: place, .."
   told : (at n k e : ℕ) (r : Report) → Opened s → Visited s at n k → Judged s at e r → LineOf s (messageLine (n + 1) r)
   -- "END: messages, accepted, strays, closing number (0 for none)."
-  end : (k : ℕ) → Opened s → AcceptedOf s k → LineOf s (endLine (closingOf s .messages) k (closingOf s .strays) (closingOf s .number))
+  end : (k : ℕ) (c : Closing) → Opened s → AcceptedOf s k → ClosedAs s c → LineOf s (endLine (c .messages) k (c .strays) (c .number))

@@ -7,17 +7,17 @@ ghost use Rattle.lent.specs.Lists.{lists};
 ghost use lib.ListN.{length};
 ghost use Rattle.service.specs.Service.{fitting};
 ghost use Rattle.chart.specs.Paymul.{PAYMUL};
-ghost use Rattle.message.specs.Rules.{paymulOf};
-ghost use Rattle.message.specs.Faults.{tellAll, leastOf};
-ghost use Rattle.rules.specs.Placed.{placedOn};
+ghost use Rattle.chart.specs.Answer.{Answers};
+ghost use Rattle.listing.specs.Listing.{listsAfter};
 ghost use Rattle.report.specs.Reported.{Reported};
-ghost use Rattle.report.specs.forms.Checks.{endsWith, typed, headedAt, outright, earlyFault, Late, byteRefusal, startBy, refusalAt};
+ghost use Rattle.report.specs.forms.Checks.{endsWith, typed, headedAt, outright, earlyFault, misfitAt, Misfit, Late, byteRefusal, startBy, refusalAt};
 use chart::Placed;
 use faults::Fault;
 use faults::First;
 use interchange::Refusal;
 use segments::Segment;
 use service::Service;
+use table::COLUMNS;
 use tally::Tally;
 use values::codes;
 
@@ -110,22 +110,22 @@ fn ordinal(n: usize) -> usize
     n % 4294967295 + 1
 }
 
-// The rules on a message that is placed, by number and segment: 17 to 29.
-fn judged(m: &[u8], v: Service, segments: u64, orders: u64) -> Fault
-    ensures { λ r. ⌜ r ≡ leastOf (tellAll (paymulOf segments orders (placedOn PAYMUL v (now (m .entry))))) ⌝ }
+// 16, at the segment that begins at `at`.
+fn misfit_at(m: &[u8], v: Service, at: usize) -> Fault
+    ensures { λ r. ⌜ r ≡ misfitAt v (now (m .entry)) at ⌝ }
 {
-    let chart = paymul::chart();
-    rules::judge(m, v, &chart, segments, orders)
+    Fault::At(16, ordinal(tally::segments_before(m, v, at)))
 }
 
-// The faults that come after the lists, by number and segment: 16 to 29.
-fn late_fault(m: &[u8], v: Service, t: Tally) -> Fault
+// The faults that come after the lists, by number and segment: 16 to 29. `misfit` is what placing the message found.
+fn late_fault(m: &[u8], v: Service, chart: &[[u8; COLUMNS]], misfit: Fault, t: Tally) -> Fault
+    requires { ⌜ now chart ≡ PAYMUL ⌝ }
+    requires { ⌜ Misfit v (now m) misfit ⌝ }
     ensures { λ r. ⌜ Late v (now (m .entry)) (t .segments) (t .orders) r ⌝ }
 {
-    let w = chart::place(m, v);
-    match w {
-        Placed::Whole => judged(m, v, t.segments as u64, t.orders as u64),
-        Placed::Stuck(at) => Fault::At(16, ordinal(tally::segments_before(m, v, at))),
+    match misfit {
+        Fault::None => rules::judge(m, v, chart, t.segments as u64, t.orders as u64),
+        Fault::At(_, _) => misfit,
     }
 }
 
@@ -169,6 +169,84 @@ fn fits(t: Tally, rows: usize, starts: usize, totals: usize) -> bool
     truth::both(segments, t.orders <= totals)
 }
 
+// The lists of a message with a tally, its rows on the chart.
+fn put_all(
+    m: &[u8],
+    v: Service,
+    chart: &[[u8; COLUMNS]],
+    t: Tally,
+    rows: &mut [u16],
+    starts: &mut [u32],
+    totals: &mut [u64],
+)
+    requires { ⌜ now chart ≡ PAYMUL ⌝ }
+    ensures { λ _. ⌜ lists (now (rows .exit)) (now (starts .exit)) (now (totals .exit)) ≡ listsAfter PAYMUL v (now (m .entry)) (t .segments) (t .orders) (lists (now (rows .entry)) (now (starts .entry)) (now (totals .entry))) ⌝ }
+{
+    listing::put_lists(m, v, chart, t.segments, t.orders, rows, starts, totals);
+}
+
+// The report of a message of at most so many bytes, with fit characters, by what placing it found.
+fn report_with(
+    m: &[u8],
+    v: Service,
+    chart: &[[u8; COLUMNS]],
+    misfit: Fault,
+    rows: &mut [u16],
+    starts: &mut [u32],
+    totals: &mut [u64],
+) -> Report
+    requires { ⌜ 0 ≡ outright (leb (length (now m)) 1048576) (fitting v) ⌝ }
+    requires { ⌜ now chart ≡ PAYMUL ⌝ }
+    requires { ⌜ Misfit v (now m) misfit ⌝ }
+    ensures { λ r. ⌜ Reported v (now (m .entry)) (lists (now (rows .entry)) (now (starts .entry)) (now (totals .entry))) (lists (now (rows .exit)) (now (starts .exit)) (now (totals .exit))) r ⌝ }
+{
+    let t = tally::tally_of(m, v);
+    let bad = t.bad;
+    if let First::At(at) = bad {
+        return Report::Refused(refusal_of_byte(m, v, at));
+    }
+    let early = early_fault(m, v, t);
+    if let Fault::At(number, segment) = early {
+        return Report::Refused(refusal_at(m, v, number, segment));
+    }
+    if fits(t, rows.len(), starts.len(), totals.len()) {
+        let late = late_fault(m, v, chart, misfit, t);
+        if let Fault::At(number, segment) = late {
+            return Report::Refused(refusal_at(m, v, number, segment));
+        }
+        put_all(m, v, chart, t, rows, starts, totals);
+        return Report::Accepted(Counts {
+            segments: t.segments,
+            orders: t.orders,
+            payments: t.payments,
+        });
+    }
+    Report::Refused(interchange::refuse(14))
+}
+
+// The same, by where the message's segments are placed.
+fn report_placed(
+    m: &[u8],
+    v: Service,
+    w: Placed,
+    rows: &mut [u16],
+    starts: &mut [u32],
+    totals: &mut [u64],
+) -> Report
+    requires { ⌜ 0 ≡ outright (leb (length (now m)) 1048576) (fitting v) ⌝ }
+    requires { ⌜ Answers PAYMUL v (now m) w ⌝ }
+    ensures { λ r. ⌜ Reported v (now (m .entry)) (lists (now (rows .entry)) (now (starts .entry)) (now (totals .entry))) (lists (now (rows .exit)) (now (starts .exit)) (now (totals .exit))) r ⌝ }
+{
+    let chart = paymul::chart();
+    match w {
+        Placed::Whole => report_with(m, v, &chart, Fault::None, rows, starts, totals),
+        Placed::Stuck(at) => {
+            let misfit = misfit_at(m, v, at);
+            report_with(m, v, &chart, misfit, rows, starts, totals)
+        }
+    }
+}
+
 // The report of a message's bytes, which begin with its UNH.
 pub fn check(
     m: &[u8],
@@ -183,27 +261,6 @@ pub fn check(
     if number != 0 {
         return Report::Refused(interchange::refuse(number));
     }
-    let t = tally::tally_of(m, v);
-    let bad = t.bad;
-    if let First::At(at) = bad {
-        return Report::Refused(refusal_of_byte(m, v, at));
-    }
-    let early = early_fault(m, v, t);
-    if let Fault::At(number, segment) = early {
-        return Report::Refused(refusal_at(m, v, number, segment));
-    }
-    if fits(t, rows.len(), starts.len(), totals.len()) {
-        let late = late_fault(m, v, t);
-        if let Fault::At(number, segment) = late {
-            return Report::Refused(refusal_at(m, v, number, segment));
-        }
-        listing::put_segments(m, v, t.segments, rows, starts);
-        listing::put_totals(m, v, t.orders, totals);
-        return Report::Accepted(Counts {
-            segments: t.segments,
-            orders: t.orders,
-            payments: t.payments,
-        });
-    }
-    Report::Refused(interchange::refuse(14))
+    let w = chart::place(m, v);
+    report_placed(m, v, w, rows, starts, totals)
 }

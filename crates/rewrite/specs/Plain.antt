@@ -12,7 +12,8 @@ use Rattle.segments.specs.Classes.{isBreak}
 use Rattle.parts.specs.Trimmed.{Values, valuesFrom}
 use Rattle.interchange.specs.declared.Opening.{Opening}
 use Rattle.interchange.specs.declared.Opening.the-variants as opening
-use Rattle.interchange.specs.Envelope.{refusal, openingOf}
+use Rattle.interchange.specs.Envelope.{refusal}
+use Rattle.interchange.specs.forms.Answers.{openingOf}
 use Rattle.lent.specs.Over.{over}
 use Rattle.rewrite.specs.declared.Rewriting.{Rewriting}
 use Rattle.rewrite.specs.declared.Rewriting.the-variants.{Written, Refused}

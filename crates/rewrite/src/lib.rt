@@ -1,8 +1,8 @@
 // An interchange rewritten in plain service characters.
-ghost use Prim.Native.Nat.{ℕ, _≤_};
+ghost use Prim.Native.Nat.{_≤_};
 ghost use mathlib.Core.Path.{_≡_};
-ghost use mathlib.Core.Bool.{Bool, true, false};
-ghost use mathlib.Core.List.{List, [], _∷_, _++_};
+ghost use mathlib.Core.Bool.{true, false};
+ghost use mathlib.Core.List.{[], _∷_, _++_};
 ghost use lib.ListN.{length, drop, replicate};
 ghost use Rattle.parts.specs.Parts.{lex};
 ghost use Rattle.parts.specs.Trimmed.{valuesAt, valuesFrom};

@@ -1,99 +1,59 @@
 // What must hold of a placed message: one loop over its segments and their rows, and the rule of the lowest number that is broken.
-ghost use Prim.Native.Nat.{_+_};
 ghost use mathlib.Core.Path.{_≡_};
-ghost use Rattle.chart.specs.Paymul.{PAYMUL};
-ghost use Rattle.message.specs.Segs.{segAt};
 ghost use Rattle.message.specs.Rules.{paymulOf};
 ghost use Rattle.message.specs.Faults.{tellAll, leastOf};
-ghost use Rattle.message.specs.forms.Run.{run as runOf};
 ghost use Rattle.rules.specs.Placed.{placedOn};
-ghost use Rattle.rules.specs.forms.Steps.{stateOf, allStart, allStep, trailerFirst, numbersFirst, amountsFirst};
+ghost use Rattle.rules.specs.forms.Steps.{onNumbers, onAmounts, onParties, onDetails, trailerFirst, numbersFirst, amountsFirst, leastFirst};
 use amounts::Amounts;
-use chart::Cursor;
-use details::Details;
 use faults::Fault;
+use faults::First;
 use numbering::Numbering;
-use parties::Parties;
 use service::Service;
 use table::COLUMNS;
 use trailer::Trailer;
 
-// The rules' states.
-pub struct State {
-    pub trailer: Trailer,
-    pub numbering: Numbering,
-    pub amounts: Amounts,
-    pub parties: Parties,
-    pub details: Details,
-}
-
-fn start() -> State
-    ensures { λ r. ⌜ r ≡ allStart ⌝ }
+// Whether 20, 21 and 29 speak of a row.
+fn on_numbers(row: usize) -> bool
+    ensures { λ r. ⌜ r ≡ onNumbers row ⌝ }
 {
-    let trailer = trailer::start();
-    let numbering = numbering::start();
-    let amounts = amounts::start();
-    let parties = parties::start();
-    let details = details::start();
-    State {
-        trailer,
-        numbering,
-        amounts,
-        parties,
-        details,
+    match row {
+        chart::LIN | chart::SEQ => true,
+        chart::CNT => true,
+        _ => false,
     }
 }
 
-// One segment, the nth, at its row.
-fn step(
-    st: State,
-    m: &[u8],
-    v: Service,
-    at: usize,
-    nth: usize,
-    row: usize,
-    segments: u64,
-    orders: u64,
-) -> State
-    ensures { λ r. ⌜ stateOf v (now (m .entry)) r ≡ allStep v (now (m .entry)) segments orders (stateOf v (now (m .entry)) st) (segAt v (now (m .entry)) nth row at) ⌝ }
+// Whether 22 to 26 speak of a row.
+fn on_amounts(row: usize) -> bool
+    ensures { λ r. ⌜ r ≡ onAmounts row ⌝ }
 {
-    let t = st.trailer;
-    let n = st.numbering;
-    let a = st.amounts;
-    let p = st.parties;
-    let d = st.details;
-    let trailer = trailer::step(t, m, v, at, nth, row, segments);
-    let numbering = numbering::step(n, m, v, at, nth, row, orders);
-    let amounts = amounts::step(a, m, v, at, nth, row);
-    let parties = parties::step(p, m, v, at, nth, row);
-    let details = details::step(d, m, v, at, nth, row);
-    State {
-        trailer,
-        numbering,
-        amounts,
-        parties,
-        details,
+    match row {
+        chart::LIN | chart::ORDER_MOA | chart::PAYMENT_MOA => true,
+        chart::ORDER_CUX => true,
+        _ => false,
     }
 }
 
-// The rules over the whole message, its rows by a table.
-fn run(m: &[u8], v: Service, t: &[[u8; COLUMNS]], segments: u64, orders: u64) -> State
-    ensures { λ r. ⌜ stateOf v (now (m .entry)) r ≡ runOf (allStep v (now (m .entry)) segments orders) (stateOf v (now (m .entry)) allStart) (placedOn (now (t .entry)) v (now (m .entry))) ⌝ }
+// Whether 27 speaks of a row.
+fn on_parties(row: usize) -> bool
+    ensures { λ r. ⌜ r ≡ onParties row ⌝ }
 {
-    let mut st = start();
-    let mut row: usize = 0;
-    let mut nth: usize = 0;
-    let mut c = chart::cursor_at(m, 0, v);
-    let mut at = c.at;
-    while at < m.len() {
-        let next = nth + 1;
-        row = chart::next_row(t, row, c.tag);
-        st = step(st, m, v, at, next, row, segments, orders);
-        c = chart::step(m, v, c);
-        at = c.at;
-        nth = next;
+    match row {
+        chart::LIN | chart::SEQ => true,
+        chart::ORDER_FII | chart::ORDER_NAD | chart::PAYMENT_FII | chart::PAYMENT_NAD => true,
+        _ => false,
     }
-    st
+}
+
+// Whether 28 speaks of a row.
+fn on_details(row: usize) -> bool
+    ensures { λ r. ⌜ r ≡ onDetails row ⌝ }
+{
+    match row {
+        chart::LIN | chart::ORDER_PRC | chart::SEQ | chart::PAYMENT_PRC => true,
+        chart::PAYMENT_FTX | chart::PAYMENT_DOC => true,
+        _ => false,
+    }
 }
 
 // The faults of amounts, before another.
@@ -132,21 +92,56 @@ fn of_trailer(t: Trailer, other: Fault) -> Fault
     faults::before(17, f17, g18)
 }
 
+// The rule of the lowest number that has a first place.
+fn least(t: Trailer, n: Numbering, a: Amounts, f27: First, f28: First) -> Fault
+    ensures { λ r. ⌜ r ≡ leastFirst t n a f27 f28 ⌝ }
+{
+    let f29 = n.first29;
+    let g29 = faults::before(29, f29, Fault::None);
+    let g28 = faults::before(28, f28, g29);
+    let g27 = faults::before(27, f27, g28);
+    let g22 = of_amounts(a, g27);
+    let g20 = of_numbers(n, g22);
+    of_trailer(t, g20)
+}
+
 // The rule of the lowest number that is broken, and the first segment under it, in a message of so many segments and LIN segments on a table.
 pub fn judge(m: &[u8], v: Service, t: &[[u8; COLUMNS]], segments: u64, orders: u64) -> Fault
     ensures { λ r. ⌜ r ≡ leastOf (tellAll (paymulOf segments orders (placedOn (now (t .entry)) v (now (m .entry))))) ⌝ }
 {
-    let st = run(m, v, t, segments, orders);
-    let u = st.trailer;
-    let n = st.numbering;
-    let f29 = n.first29;
-    let a = st.amounts;
-    let p = st.parties;
-    let d = st.details;
-    let g29 = faults::before(29, f29, Fault::None);
-    let g28 = faults::before(28, details::close(d), g29);
-    let g27 = faults::before(27, parties::close(p), g28);
-    let g22 = of_amounts(amounts::close(a, m, v), g27);
-    let g20 = of_numbers(n, g22);
-    of_trailer(u, g20)
+    let mut trailer = trailer::start();
+    let mut numbering = numbering::start();
+    let mut amounts = amounts::start();
+    let mut parties = parties::start();
+    let mut details = details::start();
+    let mut row: usize = 0;
+    let mut nth: usize = 0;
+    let mut c = chart::cursor_at(m, 0, v);
+    let mut at = c.at;
+    while at < m.len() {
+        let next = nth + 1;
+        row = chart::next_row(t, row, c.tag);
+        if row == trailer::UNT {
+            trailer = trailer::step(trailer, m, v, at, next, row, segments);
+        }
+        if on_numbers(row) {
+            numbering = numbering::step(numbering, m, v, at, next, row, orders);
+        }
+        if on_amounts(row) {
+            amounts = amounts::step(amounts, m, v, at, next, row);
+        }
+        if on_parties(row) {
+            parties = parties::step(parties, m, v, at, next, row);
+        }
+        if on_details(row) {
+            details = details::step(details, m, v, at, next, row);
+        }
+        c = chart::step(m, v, c);
+        at = c.at;
+        nth = next;
+    }
+    let a = amounts::close(amounts, m, v);
+    let f27 = parties::close(parties);
+    let f28 = details::close(details);
+    least(trailer, numbering, a, f27, f28)
 }

@@ -1,6 +1,6 @@
 -- What a byte is to a reader of segments, as document 01, "Bytes to segments", says.
 use Prim.Native.Nat.{ℕ}
-use mathlib.Core.Bool.{Bool, true, false}
+use mathlib.Core.Bool.{Bool, true}
 use lib.Dec.{eqb}
 use Rattle.service.specs.declared.Service.{Service}
 use Rattle.service.specs.Tests.{if}

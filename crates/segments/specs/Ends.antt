@@ -5,7 +5,6 @@ use mathlib.Core.List.{List}
 use mathlib.Core.Bool.{Bool, true, false}
 use lib.ListN.{length, getD, take}
 use Rattle.service.specs.declared.Service.{Service}
-use Rattle.segments.specs.declared.Class.{Class}
 use Rattle.segments.specs.declared.Class.the-variants.{Term}
 use Rattle.segments.specs.Classes.{classOf, isBreak}
 use Rattle.segments.specs.Sync.{relAfter}

@@ -2,11 +2,13 @@ pub mod BytesLaws
 pub mod ClearLaws
 pub mod ClosedLaws
 pub mod EndsLaws
+pub mod FindLaws
 pub mod FitLaws
 pub mod ListLaws
 pub mod PartLaws
 pub mod ResyncLaws
 pub mod SegmentsLaws
+pub mod SplitLaws
 pub mod StartsLaws
 pub mod SyncLaws
 pub mod UnaLaws

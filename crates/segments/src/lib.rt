@@ -1,10 +1,13 @@
 // Bytes to segments: what a byte is, where a segment ends, and where the next one begins.
 ghost use mathlib.Core.Path.{_≡_};
-ghost use mathlib.Core.Bool.{Bool, true, false, _||_};
+ghost use mathlib.Core.Bool.{false};
+ghost use Prim.Native.Nat.{_+_, _<_, _≤_};
+ghost use lib.Count.{trailingZeros};
 ghost use lib.Dec.{eqb};
-ghost use lib.ListN.{length, take, drop};
+ghost use lib.ListN.{drop};
 ghost use Rattle.segments.specs.Classes.{classOf};
-ghost use Rattle.segments.specs.forms.Bytes.{releaseOf, endFrom, pastBreaks};
+ghost use Rattle.segments.specs.forms.Bytes.{releaseOf, followsRelease, endFrom, pastBreaks};
+ghost use Rattle.segments.specs.forms.Find.{firstOf, eight, anyOf, digit, marksOf};
 ghost use Rattle.segments.specs.forms.Segments.{segmentAt};
 use service::Service;
 
@@ -62,43 +65,88 @@ fn release_of(v: Service) -> u8
     }
 }
 
-// Whether a byte is one of two.
-fn either(b: u8, x: u8, y: u8) -> bool
-    ensures { λ r. ⌜ r ≡ (eqb b x || eqb b y) ⌝ }
+// 1 where two bytes are the same, else 0.
+fn one(b: u8, x: u8) -> u32
+    ensures { λ r. ⌜ (r ≡ digit (eqb b x)) × (r ≤ 1) ⌝ }
 {
-    (b == x) | (b == y)
+    (b == x) as u32
 }
 
-// Past bytes that are no terminator and no release, four at a time: the end found from there is the end found from `at`.
-fn pass_fours(s: &[u8], at: usize, v: Service) -> usize
-    ensures { λ r. ⌜ endFrom v false at (drop at (now (s .entry))) ≡ endFrom v false r (drop r (now (s .entry))) ⌝ }
+// Whether one of the eight bytes at `i` is `x`.
+fn met(s: &[u8], i: usize, x: u8) -> bool
+    requires { do ⌜ i + 8 ≤ (← ⟦s.len()⟧) ⌝ }
+    ensures { λ r. ⌜ r ≡ anyOf x false (eight i (now (s .entry))) ⌝ }
 {
-    if s.len() < 4 {
+    (s[i] == x)
+        | (s[i + 1] == x)
+        | (s[i + 2] == x)
+        | (s[i + 3] == x)
+        | (s[i + 4] == x)
+        | (s[i + 5] == x)
+        | (s[i + 6] == x)
+        | (s[i + 7] == x)
+}
+
+// The eight bytes at `i` as binary digits, set where a byte is `x`, the first one lowest.
+fn marks(s: &[u8], i: usize, x: u8) -> u32
+    requires { do ⌜ i + 8 ≤ (← ⟦s.len()⟧) ⌝ }
+    ensures { λ r. ⌜ r ≡ marksOf x (eight i (now (s .entry))) ⌝ }
+{
+    one(s[i], x)
+        + 2 * one(s[i + 1], x)
+        + 4 * one(s[i + 2], x)
+        + 8 * one(s[i + 3], x)
+        + 16 * one(s[i + 4], x)
+        + 32 * one(s[i + 5], x)
+        + 64 * one(s[i + 6], x)
+        + 128 * one(s[i + 7], x)
+}
+
+// How many digits of a number stand below its lowest set one.
+fn below(m: u32) -> usize
+    ensures { λ r. ⌜ r ≡ trailingZeros 32 m ⌝ }
+{
+    u32::trailing_zeros(m) as usize
+}
+
+// Eight bytes at a time, up to the first byte that is `x` or to the last few: what is found from there is what is found from `at`.
+fn eights(s: &[u8], at: usize, x: u8) -> usize
+    ensures { λ r. ⌜ firstOf x at (drop at (now (s .entry))) ≡ firstOf x r (drop r (now (s .entry))) ⌝ }
+{
+    if s.len() < 8 {
         return at;
     }
-    let last = s.len() - 4;
-    let release = release_of(v);
+    let last = s.len() - 8;
     let mut i = at;
     while i <= last {
-        let terminator = v.terminator;
-        let met = either(s[i], terminator, release)
-            | either(s[i + 1], terminator, release)
-            | either(s[i + 2], terminator, release)
-            | either(s[i + 3], terminator, release);
-        if met {
-            return i;
+        if met(s, i, x) {
+            return i + below(marks(s, i, x));
         }
-        i += 4;
+        i += 8;
     }
     i
 }
 
-// The first unreleased terminator at or after `at`.
-fn segment_end(s: &[u8], at: usize, v: Service) -> End
+// The first index at or after `at` whose byte is `x`; where there is none, an index at or past the end.
+fn find(s: &[u8], at: usize, x: u8) -> usize
+    ensures { λ r. ⌜ r ≡ firstOf x at (drop at (now (s .entry))) ⌝ }
+{
+    let mut i = eights(s, at, x);
+    while i < s.len() {
+        if s[i] == x {
+            return i;
+        }
+        i += 1;
+    }
+    i
+}
+
+// The first unreleased terminator at or after `at`, byte by byte.
+fn slow_end(s: &[u8], at: usize, v: Service) -> End
     ensures { λ r. ⌜ r ≡ endFrom v false at (drop at (now (s .entry))) ⌝ }
 {
     let release = release_of(v);
-    let mut i = pass_fours(s, at, v);
+    let mut i = at;
     while i < s.len() {
         let b = s[i];
         let terminator = v.terminator;
@@ -110,6 +158,32 @@ fn segment_end(s: &[u8], at: usize, v: Service) -> End
         } else {
             i += 1;
         }
+    }
+    End::None
+}
+
+// Whether the byte before `p`, at or after `at`, is the one named as the release: if not, the byte at `p` is not released.
+fn follows_release(s: &[u8], at: usize, p: usize, v: Service) -> bool
+    requires { do ⌜ p < (← ⟦s.len()⟧) ⌝ }
+    ensures { λ r. ⌜ r ≡ followsRelease v at p (now (s .entry)) ⌝ }
+{
+    if at < p {
+        let before = p - 1;
+        return s[before] == v.release;
+    }
+    false
+}
+
+// The first unreleased terminator at or after `at`.
+fn segment_end(s: &[u8], at: usize, v: Service) -> End
+    ensures { λ r. ⌜ r ≡ endFrom v false at (drop at (now (s .entry))) ⌝ }
+{
+    let p = find(s, at, v.terminator);
+    if p < s.len() {
+        if follows_release(s, at, p, v) {
+            return slow_end(s, at, v);
+        }
+        return End::At(p);
     }
     End::None
 }

@@ -12,6 +12,11 @@ abbrev pub isEmpty : {A : Type 0} → List A → Bool
 isEmpty [] = true
 isEmpty (x ∷ l) = false
 
+-- the last entry, or, of none, what is given
+unfoldable pub lastOf : {A : Type 0} → A → List A → A
+lastOf d [] = d
+lastOf d (x ∷ l) = lastOf x l
+
 -- "exactly if"
 abbrev pub alike : Bool → Bool → Bool
 alike true b = b

@@ -3,7 +3,7 @@ ghost use mathlib.Core.Path.{_≡_};
 ghost use mathlib.Core.List.{[], _∷_};
 ghost use mathlib.Core.Bool.{not, _&&_, _||_};
 ghost use lib.ListN.{getD};
-ghost use Rattle.service.specs.Service.{plainService, isAlphanumeric, serves, isMark, isNone, among, distinct, namedBy, servingBy, fitting, beginsUna, charactersOf};
+ghost use Rattle.service.specs.Service.{plainService, isAlphanumeric, serves, isMark, among, distinct, namedBy, servingBy, fitting, beginsUna, charactersOf};
 
 pub struct Service {
     pub component: u8,

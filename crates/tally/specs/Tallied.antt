@@ -9,6 +9,7 @@ use Rattle.segments.specs.SegmentList.{Piece, finished, unfinished}
 use Rattle.parts.specs.Written.{strangePlaces}
 use Rattle.values.specs.Numbers.{valueFrom}
 use Rattle.values.specs.forms.Values.{codeOf}
+use Rattle.values.specs.forms.Codes.{LIN, SEQ, UNT}
 use Rattle.faults.specs.declared.First.{First}
 use Rattle.faults.specs.declared.First.the-variants as first
 use Rattle.faults.specs.Firsts.{lesser, placeUnless}
@@ -22,16 +23,6 @@ firstPlace (p ∷ l) = first.At p
 -- 10: "under 10 the first such byte": of the bytes of a text from a up to but excluding e, the first that no value may have
 abbrev pub badBetween : List ℕ → ℕ → ℕ → First
 badBetween m a e = firstPlace (strangePlaces a (take (e - a) (drop a m)))
-
--- the codes of the tags LIN, SEQ and UNT
-abbrev pub LIN : ℕ
-LIN = 0x1_4c_49_4e
-
-abbrev pub SEQ : ℕ
-SEQ = 0x1_53_45_51
-
-abbrev pub UNT : ℕ
-UNT = 0x1_55_4e_54
 
 abbrev pub oneIf : Bool → ℕ
 oneIf true = 1

@@ -1,10 +1,10 @@
 // A message's bytes gone over once: the first byte that no value may have, its segments counted, its first UNT.
-ghost use Prim.Native.Nat.{ℕ, _+_, _<_};
+ghost use Prim.Native.Nat.{_+_, _≤_, _<_};
 ghost use mathlib.Core.Path.{_≡_};
-ghost use mathlib.Core.Bool.{not};
 ghost use lib.ListN.{length};
 ghost use Rattle.parts.specs.Parts.{isStrange};
 ghost use Rattle.segments.specs.SegmentList.{segmentsFrom, startAt};
+ghost use Rattle.tally.specs.forms.Eights.{eightStrange};
 ghost use Rattle.tally.specs.forms.Few.{Few};
 ghost use Rattle.tally.specs.Places.{passed};
 ghost use Rattle.tally.specs.Tallied.{badBetween, oneIf, finishedOne, unfinishedOne, together, tallyOf};
@@ -21,33 +21,58 @@ pub struct Tally {
     pub unt: First,
 }
 
-// Whether a value may have the byte: 0x20 to 0x7E or 0xA0 to 0xFF.
-fn is_value_byte(b: u8) -> bool
-    ensures { λ r. ⌜ r ≡ not (isStrange b) ⌝ }
+// Whether no value may have the byte: neither 0x20 to 0x7E nor 0xA0 to 0xFF.
+fn is_strange(b: u8) -> bool
+    ensures { λ r. ⌜ r ≡ isStrange b ⌝ }
 {
-    if b < 0x20 {
-        return false;
+    (b < 0x20) | ((0x7e < b) & (b < 0xa0))
+}
+
+// Whether no value may have one of the eight bytes from `i` on.
+fn has_strange(m: &[u8], i: usize) -> bool
+    requires { ⌜ i + 8 ≤ length (now m) ⌝ }
+    ensures { λ r. ⌜ r ≡ eightStrange (now (m .entry)) i ⌝ }
+{
+    is_strange(m[i])
+        | is_strange(m[i + 1])
+        | is_strange(m[i + 2])
+        | is_strange(m[i + 3])
+        | is_strange(m[i + 4])
+        | is_strange(m[i + 5])
+        | is_strange(m[i + 6])
+        | is_strange(m[i + 7])
+}
+
+// Past bytes that values may have, eight at a time: the first bad byte from there is that from `from`.
+fn past_eights(m: &[u8], from: usize, to: usize) -> usize
+    requires { ⌜ to ≤ length (now m) ⌝ }
+    ensures { λ r. ⌜ badBetween (now (m .entry)) from to ≡ badBetween (now (m .entry)) r to ⌝ }
+{
+    if to < 8 {
+        return from;
     }
-    if b <= 0x7e {
-        return true;
+    let last = to - 8;
+    let mut i = from;
+    while i <= last {
+        if has_strange(m, i) {
+            return i;
+        }
+        i += 8;
     }
-    0xa0 <= b
+    i
 }
 
 // The first byte from `from` on that no value may have, before `to`.
 fn bad_byte(m: &[u8], from: usize, to: usize) -> First
+    requires { ⌜ to ≤ length (now m) ⌝ }
     ensures { λ r. ⌜ r ≡ badBetween (now (m .entry)) from to ⌝ }
 {
-    let mut i = from;
+    let mut i = past_eights(m, from, to);
     while i < to {
-        if m.len() <= i {
-            return First::None;
-        }
-        if is_value_byte(m[i]) {
-            i += 1;
-        } else {
+        if is_strange(m[i]) {
             return First::At(i);
         }
+        i += 1;
     }
     First::None
 }
@@ -61,7 +86,7 @@ fn count_if(holds: bool, n: usize) -> usize
 
 // One finished segment more: it begins at `at`, and its terminator stands at `end`.
 fn count(t: Tally, m: &[u8], at: usize, end: usize, tag: u64) -> Tally
-    requires { ⌜ Few t at × (at < length (now m)) ⌝ }
+    requires { ⌜ Few t at × (at < length (now m)) × (end ≤ length (now m)) ⌝ }
     ensures { λ r. ⌜ r ≡ together t (finishedOne (now (m .entry)) at end tag) ⌝ }
 {
     let bad = t.bad;

@@ -12,7 +12,7 @@ pub struct Trailer {
 }
 
 // The row of the UNT.
-const UNT: usize = 112;
+pub const UNT: usize = 112;
 
 pub fn start() -> Trailer
     ensures { λ r. ⌜ r ≡ trailerStart ⌝ }

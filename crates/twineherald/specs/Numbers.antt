@@ -7,8 +7,11 @@ use Rattle.service.specs.declared.Service.{Service}
 use Rattle.service.specs.declared.Characters.the-variants.{Fit, Unfit}
 use Rattle.service.specs.Service.{charactersOf}
 use Rattle.interchange.specs.declared.Refusal.{Refusal}
-use Rattle.interchange.specs.Envelope.{refusal}
+use Rattle.interchange.specs.declared.Opening.{Opening}
 use Rattle.interchange.specs.declared.Closing.{Closing}
+use Rattle.interchange.specs.Envelope.{refusal, openingNumber}
+use Rattle.interchange.specs.Opened.{OpenedAs}
+use Rattle.interchange.specs.Closed.{ClosedAs}
 use Rattle.lent.specs.Lists.{Lists}
 use Rattle.report.specs.declared.Counts.{Counts}
 use Rattle.report.specs.declared.Report.{Report}
@@ -56,6 +59,14 @@ rewritingNumbers (rewrite.Refused f) = record { number = f .number; length = 0 }
 -- what closing found
 abbrev pub closingNumbers : Closing → ClosingNumbers
 closingNumbers c = record { number = c .number; messages = c .messages; strays = c .strays }
+
+-- the number is that of opening's answer for the bytes b
+pub data OpenedWith (b : List ℕ) (x : ℕ) : Type 0 where
+  opened : (o : Opening) → OpenedAs b o → x ≡ openingNumber o → OpenedWith b x
+
+-- the numbers are those of closing's answer
+pub data ClosedWith (b : List ℕ) (x : ClosingNumbers) : Type 0 where
+  closed : (c : Closing) → ClosedAs b c → x ≡ closingNumbers c → ClosedWith b x
 
 -- the numbers are those of the walk's answer from the position at in the bytes b; the lists are x before and x′ after
 pub data Stepped (b : List ℕ) (at : ℕ) (x x′ : Lists) (y : StepNumbers) : Type 0 where

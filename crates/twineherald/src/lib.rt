@@ -1,10 +1,9 @@
 // The calls for C: open, walk, check, close and rewrite on byte slices and numbers. include/twineherald.h declares them.
 ghost use mathlib.Core.Path.{_≡_};
 ghost use Prim.Native.Nat.{_%_, _≤_};
-ghost use Rattle.interchange.specs.Envelope.{openingNumber, openingOf, closingOf};
 ghost use Rattle.lent.specs.Lists.{lists};
 ghost use Rattle.report.specs.forms.Few.{Few, FewIn};
-ghost use Rattle.twineherald.specs.Numbers.{acceptedOf, refusedOf, reportOf, nothingOf, stepWith, stepOf, closingNumbers, Stepped, Checked, Rewritten};
+ghost use Rattle.twineherald.specs.Numbers.{acceptedOf, refusedOf, reportOf, nothingOf, stepWith, OpenedWith, ClosedWith, Stepped, Checked, Rewritten};
 use interchange::Opening;
 use interchange::Refusal;
 use report::Counts;
@@ -115,7 +114,7 @@ fn step_numbers(found: u32, start: usize, end: usize, r: ReportNumbers) -> StepN
 
 #[no_mangle]
 pub extern "C" fn twineherald_open(bytes: &[u8]) -> u32
-    ensures { λ x. ⌜ x ≡ openingNumber (openingOf (now (bytes .entry))) ⌝ }
+    ensures { λ x. ⌜ OpenedWith (now (bytes .entry)) x ⌝ }
 {
     let o = interchange::open(bytes);
     match o {
@@ -164,7 +163,7 @@ pub extern "C" fn twineherald_check(
 
 #[no_mangle]
 pub extern "C" fn twineherald_close(bytes: &[u8]) -> ClosingNumbers
-    ensures { λ x. ⌜ x ≡ closingNumbers (closingOf (now (bytes .entry))) ⌝ }
+    ensures { λ x. ⌜ ClosedWith (now (bytes .entry)) x ⌝ }
 {
     let c = interchange::close(bytes);
     ClosingNumbers {

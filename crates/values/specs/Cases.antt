@@ -2,7 +2,7 @@
 use Prim.Native.Nat.{ℕ, _+_}
 use mathlib.Core.Path.{_≡_}
 use mathlib.Core.List.{List, [], _∷_}
-use mathlib.Core.Bool.{Bool, true, false}
+use mathlib.Core.Bool.{false}
 use Rattle.service.specs.Service.{plainService}
 use Rattle.segments.specs.SegmentList.{finished, segmentsFrom}
 use Rattle.parts.specs.Parts.{lex, elements}

@@ -1,8 +1,8 @@
 -- Values by their position, and what they say: numbers, three capitals, as document 01, "Rules on a placed message", says.
-use Prim.Native.Nat.{ℕ, suc, zero, _+_, _*_, _-_, _^_, _≤_, _<_}
+use Prim.Native.Nat.{ℕ, _+_, _*_, _-_, _^_, _≤_, _<_}
 use mathlib.Core.Path.{_≡_}
 use mathlib.Core.List.{List, [], _∷_}
-use mathlib.Core.Bool.{Bool, true, false}
+use mathlib.Core.Bool.{false}
 use lib.ListN.{length, getD, drop}
 use Rattle.service.specs.declared.Service.{Service}
 use Rattle.parts.specs.Parts.{lex, valueOf, elements, valueAt}

@@ -9,14 +9,14 @@ use Rattle.amounts.proofs.add.Reads as add-reads
 use Rattle.truth.proofs.either.Reads as either-reads
 use Rattle.truth.proofs.isnt.Reads as isnt-reads
 use Rattle.values.proofs.same_in.Reads as same-in-reads
-use Rattle.amounts.proofs.worth_at.Reads as worth-at-reads
+use Rattle.amounts.proofs.worth_of.Reads as worth-of-reads
 use Rattle.faults.proofs.keep.Reads as keep-reads
 
 isnt-requires : tie.Need-isnt-requires
 isnt-requires c κs = search (added-by, needs)
 
-worth-at-requires : tie.Need-worth-at-requires
-worth-at-requires c κs = search (added-by, needs)
+worth-of-requires : tie.Need-worth-of-requires
+worth-of-requires c κs = search (added-by, needs)
 
 add-requires : tie.Need-add-requires
 add-requires c κs = search (added-by, needs)
@@ -47,7 +47,7 @@ added-spec =
     tie.close
     (tie.spec
     isnt-requires
-    worth-at-requires
+    worth-of-requires
     add-requires
     same-in-requires
     either-requires

@@ -7,6 +7,10 @@ use Rattle.amounts.proofs.order_moa.Reads as reads
 use Rattle.amounts.proofs.order_moa.Lts as lts
 use Rattle.amounts.proofs.formed.Reads as formed-reads
 use Rattle.amounts.proofs.next_order.Reads as next-order-reads
+use Rattle.values.proofs.amount_in.Reads as amount-in-reads
+
+amount-in-requires : tie.Need-amount-in-requires
+amount-in-requires c κs = search (moa-by, needs)
 
 formed-requires : tie.Need-formed-requires
 formed-requires c κs = search (moa-by, needs)
@@ -18,4 +22,4 @@ returns : tie.Need-returns
 returns c = search (moa-by, needs)
 
 pub order-moa-spec : {M : Type 1} → statement M
-order-moa-spec = tie.close (tie.spec formed-requires next-order-requires returns)
+order-moa-spec = tie.close (tie.spec amount-in-requires formed-requires next-order-requires returns)

@@ -7,6 +7,10 @@ use Rattle.amounts.proofs.payment_moa.Reads as reads
 use Rattle.amounts.proofs.payment_moa.Lts as lts
 use Rattle.amounts.proofs.added.Reads as added-reads
 use Rattle.amounts.proofs.formed.Reads as formed-reads
+use Rattle.values.proofs.amount_in.Reads as amount-in-reads
+
+amount-in-requires : tie.Need-amount-in-requires
+amount-in-requires c κs = search (paid-by, needs)
 
 formed-requires : tie.Need-formed-requires
 formed-requires c κs = search (paid-by, needs)
@@ -18,4 +22,4 @@ returns : tie.Need-returns
 returns c = search (paid-by, needs)
 
 pub payment-moa-spec : {M : Type 1} → statement M
-payment-moa-spec = tie.close (tie.spec formed-requires added-requires returns)
+payment-moa-spec = tie.close (tie.spec amount-in-requires formed-requires added-requires returns)

@@ -5,7 +5,9 @@ use mathlib.Core.Bool.{Bool, true, false, not, _&&_, _||_}
 use lib.Dec.{eqb}
 use Rattle.service.specs.declared.Service.{Service}
 use Rattle.service.specs.Tests.{if}
-use Rattle.values.specs.forms.Values.{amountOf, letters}
+use Rattle.values.specs.declared.Amount.{Amount}
+use Rattle.values.specs.forms.Values.{amountOf}
+use Rattle.values.specs.forms.Codes as codes
 use Rattle.values.specs.Text.{sameList, says}
 use Rattle.values.specs.Numbers.{valueIn}
 use Rattle.faults.specs.declared.First.{First}
@@ -13,7 +15,7 @@ use Rattle.faults.specs.declared.First.the-variants as first
 use Rattle.faults.specs.Firsts.{lesser, placeUnless}
 use Rattle.message.specs.Segs.{Seg, segAt, LIN, MOA5, CUX5, MOA11, is}
 use Rattle.message.specs.Rules.{isOf, worth, capitals, qualifier, amount, currency, cuxHolds}
-use Rattle.message.specs.forms.Run.{testStep, Level, levelStep}
+use Rattle.message.specs.forms.Run.{testStep, Level}
 use Rattle.message.specs.forms.Counts.{someStep, most}
 use Rattle.amounts.specs.declared.Order.{Order}
 use Rattle.amounts.specs.declared.Amounts.{Amounts}
@@ -151,15 +153,15 @@ exchanged v m st i n =
     amountsOf (orderOf (st .order .live) (st .order .nth) (st .order .at) true (st .order .sum)) (st .first22) (st .first23) (st .first24)
     (lesser (st .first25) (placeUnless (not (st .order .live) || (says (valueIn v (st .order .at) m 1 0) "57" && cuxHolds (valueIn v (st .order .at) m 1 2) (valueIn v i m))) n)) (st .first26)
 
-abbrev pub paid : Service → List ℕ → Amounts → ℕ → ℕ → Amounts
-paid v m st i n =
-    amountsOf (orderOf (st .order .live) (st .order .nth) (st .order .at) (st .order .exchanged) (min (st .order .sum + worth (amountOf (valueIn v i m 1 1))) most)) (st .first22)
+abbrev pub paid : Service → List ℕ → Amounts → ℕ → ℕ → Amount → Amounts
+paid v m st i n x =
+    amountsOf (orderOf (st .order .live) (st .order .nth) (st .order .at) (st .order .exchanged) (min (st .order .sum + worth x) most)) (st .first22)
     (lesser (st .first23) (placeUnless (not (st .order .live) || sameList (valueIn v i m 1 0) (valueIn v (st .order .at) m 1 0)) n))
     (lesser (st .first24) (placeUnless (not (st .order .live) || sameList (valueIn v i m 1 2) (valueIn v (st .order .at) m 1 2)) n)) (st .first25) (st .first26)
 
 -- rate bases by their codes
 unfoldable pub baseBy : ℕ → Bool
-baseBy x = eqb x (letters "1") || eqb x (letters "100") || eqb x (letters "1000")
+baseBy x = eqb x codes.ONE || eqb x codes.HUNDRED || eqb x codes.THOUSAND
 
 unfoldable pub basesBy : ℕ → ℕ → ℕ → Bool
-basesBy x y z = (eqb x 1 && eqb y 1) || (not (eqb z 1) && ((eqb x 1 && baseBy y) || (baseBy x && eqb y 1)))
+basesBy x y z = (eqb x codes.EMPTY && eqb y codes.EMPTY) || (not (eqb z codes.EMPTY) && ((eqb x codes.EMPTY && baseBy y) || (baseBy x && eqb y codes.EMPTY)))

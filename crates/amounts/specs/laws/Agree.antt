@@ -1,10 +1,10 @@
 -- What the run of amounts comes to: the first faults under 22 to 26. Assumes nothing.
-use Prim.Native.Nat.{ℕ, _+_, _≤_, _<_, min}
+use Prim.Native.Nat.{ℕ, _+_, _<_, min}
 use native.Mathlib.Omega.{arith}
 use native.Mathlib.Decide.{ℕ-discrete}
 use mathlib.Core.Path.{_≡_, refl, sym, ap, _∙_}
-use mathlib.Core.List.{List, [], _∷_, _++_}
-use mathlib.Core.Bool.{Bool, true, false, not, _||_}
+use mathlib.Core.List.{List, [], _∷_}
+use mathlib.Core.Bool.{Bool, true, false, _||_}
 use lib.Dec.{eqb}
 use borrow.Author.Tests.{eq-eqb, ne-eqb}
 use Rattle.values.specs.declared.Amount.{Amount}
@@ -17,8 +17,8 @@ use Rattle.faults.specs.Firsts.{lesser, placeUnless}
 use Rattle.faults.specs.laws.FirstsLaws.{lesser-last, lesser-group}
 use Rattle.message.specs.Segs.{Seg, Stretch, LIN, MOA5, CUX5, MOA11, is, those, amounts, each}
 use Rattle.message.specs.Rules as rules
-use Rattle.message.specs.Rules.{worth, amount, some, unless, failing, sum, fault23, fault24, fault25, fault26}
-use Rattle.message.specs.forms.Run.{run, firstOf, testStep, Level, levelStep, close}
+use Rattle.message.specs.Rules.{worth, amount, failing, sum, fault23, fault24, fault25, fault26}
+use Rattle.message.specs.forms.Run.{run, firstOf, testStep, levelStep, close}
 use Rattle.message.specs.laws.FirstLaws.{none-lesser, lesser-swap, first-append, first-unless, test-tells}
 use Rattle.message.specs.laws.LevelLaws.{goes, Tells, level-tells}
 use Rattle.message.specs.forms.Counts.{someStep, most}

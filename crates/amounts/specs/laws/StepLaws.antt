@@ -1,15 +1,15 @@
 -- The code's ways through a step of amounts. Assumes nothing.
 use Prim.Native.Nat.{ℕ, _+_, min}
-use mathlib.Core.Path.{_≡_, refl, sym, ap, _∙_}
+use mathlib.Core.Path.{_≡_, refl, ap, _∙_}
 use mathlib.Core.List.{List}
 use mathlib.Core.Bool.{Bool, true, false, not, _&&_, _||_}
 use lib.Dec.{eqb}
-use borrow.Author.Tests.{eq-eqb, ne-eqb}
+use borrow.Author.Tests.{ne-eqb}
 use Rattle.service.specs.declared.Service.{Service}
 use Rattle.values.specs.declared.Amount.{Amount}
-use Rattle.values.specs.declared.Amount.the-variants.{Of, Not}
 use Rattle.values.specs.Numbers.{valueIn}
 use Rattle.values.specs.forms.Values.{codeFrom, codeOf, amountOf, isCapitals}
+use Rattle.values.specs.forms.Codes as codes
 use Rattle.values.specs.Text.{sameList, text, says}
 use Rattle.values.specs.laws.TextLaws.{says-code}
 use Rattle.faults.specs.declared.First.{First}
@@ -23,50 +23,40 @@ use Rattle.message.specs.forms.Counts.{someStep, most}
 use Rattle.message.specs.laws.ValueLaws.{empty-code}
 use Rattle.amounts.specs.declared.Order.{Order}
 use Rattle.amounts.specs.declared.Amounts.{Amounts}
-use Rattle.amounts.specs.forms.Steps.{addStep, heldInner, rule23, rule24, rule25, rule26, comesBy, heldStep, firstStep, sumsStep, endedBy, orderOf, noOrder, amountsOf, sumsStart, heldOf, sumsOf, sumsClose, ownAt, orderEnded, amountsClose, withForm, exchanged, paid, baseBy, basesBy}
+use Rattle.amounts.specs.forms.Steps.{addStep, heldInner, heldStep, firstStep, sumsStep, orderOf, noOrder, amountsOf, sumsStart, sumsOf, sumsClose, ownAt, orderEnded, amountsClose, withForm, exchanged, paid, baseBy, basesBy}
 
 -- ---- values
-module _ (a : Amount) (l : List ℕ) (c : a ≡ amountOf l) where
-  pub formed-so : (n : ℕ) → a ≡ Of n → true ≡ isOf (amountOf l)
-  formed-so n q = ap isOf (sym q ∙ c)
-
-  pub formed-not : a ≡ Not → false ≡ isOf (amountOf l)
-  formed-not q = ap isOf (sym q ∙ c)
-
-  pub worth-of : (n : ℕ) → a ≡ Of n → n ≡ worth (amountOf l)
-  worth-of n q = ap worth (sym q ∙ c)
-
-  pub worth-not : a ≡ Not → 0 ≡ worth (amountOf l)
-  worth-not q = ap worth (sym q ∙ c)
+pub worth-by : (a : Amount) (l : List ℕ) (w : ℕ) → a ≡ amountOf l → w ≡ worth a → w ≡ worth (amountOf l)
+worth-by a l w p q = q ∙ ap worth p
 
 module _ (x : ℕ) (l : List ℕ) (e : x ≡ codeOf l) where
-  pub exchange-by : eqb x 79159 ≡ says l "57"
+  pub exchange-by : eqb x codes.FIFTY-SEVEN ≡ says l "57"
   unfolding text codeFrom
   exchange-by = rw (e, says-code l "57" refl)
 
-  pub qualifier-by : (r : Bool) → r ≡ eqb x 313 || eqb x 79159 → r ≡ says l "9" || says l "57"
+  pub qualifier-by : (r : Bool) → r ≡ eqb x codes.NINE || eqb x codes.FIFTY-SEVEN → r ≡ says l "9" || says l "57"
   unfolding text codeFrom
   qualifier-by r q = q ∙ rw (e, says-code l "9" refl, says-code l "57" refl)
 
   pub currency-by : (r : Bool) → r ≡ isCapitals x → r ≡ capitals l
   currency-by r q = q ∙ rw e
 
-  pub own-by : (value : ℕ → ℕ → List ℕ) (money : List ℕ) → l ≡ value 1 0 → (t r : Bool) → t ≡ sameList (value 1 1) money → r ≡ eqb x 306 && t → r ≡ firstHolds money value
+  pub own-by : (value : ℕ → ℕ → List ℕ) (money : List ℕ) → l ≡ value 1 0 → (t r : Bool) → t ≡ sameList (value 1 1) money → r ≡ eqb x codes.TWO && t → r ≡ firstHolds money value
   unfolding firstHolds text codeFrom
   own-by value money f t r p q = q ∙ rw (p, e, f, says-code (value 1 0) "2" refl)
 
-pub own-named : (x : ℕ) (value : ℕ → ℕ → List ℕ) (money : List ℕ) (t r : Bool) → x ≡ codeOf (value 1 0) → t ≡ sameList (value 1 1) money → r ≡ eqb x 306 && t → r ≡ firstHolds money value
+pub own-named : (x : ℕ) (value : ℕ → ℕ → List ℕ) (money : List ℕ) (t r : Bool) → x ≡ codeOf (value 1 0) → t ≡ sameList (value 1 1) money → r ≡ eqb x codes.TWO && t → r ≡ firstHolds money value
 own-named x value money t r e p q = own-by x (value 1 0) e value money refl t r p q
 
-pub other-named : (x y : ℕ) (value : ℕ → ℕ → List ℕ) (money : List ℕ) (c t n u r : Bool) → x ≡ codeOf (value 2 0) → y ≡ codeOf (value 2 1) → c ≡ isCapitals y → t ≡ sameList (value 2 1) money → n ≡ not t → u ≡ eqb x 307 && c → r ≡ u && n → r ≡ secondHolds money value
+pub other-named : (x y : ℕ) (value : ℕ → ℕ → List ℕ) (money : List ℕ) (c t n u r : Bool) → x ≡ codeOf (value 2 0) → y ≡ codeOf (value 2 1) → c ≡ isCapitals y → t ≡ sameList (value 2 1) money → n ≡ not t → u ≡ eqb x codes.THREE && c → r ≡ u && n → r ≡ secondHolds money value
 unfolding secondHolds text codeFrom
 other-named x y value money c t n u r a b d e f g h = h ∙ rw (g, f, d, e, a, b, says-code (value 2 0) "3" refl)
 
-pub base-by : (x : ℕ) (u r : Bool) → u ≡ eqb x 305 || eqb x 20000816 → r ≡ u || eqb x 5120208944 → r ≡ baseBy x
-unfolding baseBy text codeFrom
+pub base-by : (x : ℕ) (u r : Bool) → u ≡ eqb x codes.ONE || eqb x codes.HUNDRED → r ≡ u || eqb x codes.THOUSAND → r ≡ baseBy x
+unfolding baseBy
 base-by x u r a b = b ∙ rw a
 
-pub bases-by : (x y z : ℕ) (n s f bx b o t r : Bool) → n ≡ eqb x 1 && eqb y 1 → b ≡ baseBy y → s ≡ eqb x 1 && b → bx ≡ baseBy x → f ≡ bx && eqb y 1 → o ≡ s || f → t ≡ not (eqb z 1) && o → r ≡ n || t → r ≡ basesBy x y z
+pub bases-by : (x y z : ℕ) (n s f bx b o t r : Bool) → n ≡ eqb x codes.EMPTY && eqb y codes.EMPTY → b ≡ baseBy y → s ≡ eqb x codes.EMPTY && b → bx ≡ baseBy x → f ≡ bx && eqb y codes.EMPTY → o ≡ s || f → t ≡ not (eqb z codes.EMPTY) && o → r ≡ n || t → r ≡ basesBy x y z
 unfolding basesBy
 bases-by x y z n s f bx b o t r h1 h2 h3 h4 h5 h6 h7 h8 = h8 ∙ rw (h1, h7, h6, h3, h5, h2, h4)
 
@@ -113,22 +103,22 @@ close-by v m st o r e q = rw (q, e)
 pub close-sums : (v : Service) (m : List ℕ) (st r : Amounts) → r ≡ amountsClose v m st → sumsOf v m r ≡ sumsClose v m (sumsOf v m st)
 close-sums v m st r e = rw e
 
-pub moa-by : (v : Service) (m : List ℕ) (st u r : Amounts) (o : Order) (t : Bool) (n : ℕ) → u ≡ withForm st t n → r ≡ orderEnded v m u o → r ≡ orderEnded v m (withForm st t n) o
-moa-by v m st u r o t n p q = q ∙ rw p
+pub moa-by : (v : Service) (m : List ℕ) (st u r : Amounts) (o : Order) (x y : Amount) (n : ℕ) → x ≡ y → u ≡ withForm st (isOf x) n → r ≡ orderEnded v m u o → r ≡ orderEnded v m (withForm st (isOf y) n) o
+moa-by v m st u r o x y n e p q = q ∙ rw (p, e)
 
-pub paid-by : (v : Service) (m : List ℕ) (st u r : Amounts) (t : Bool) (i n : ℕ) → u ≡ withForm st t n → r ≡ paid v m u i n → r ≡ paid v m (withForm st t n) i n
-paid-by v m st u r t i n p q = q ∙ rw p
+pub paid-by : (v : Service) (m : List ℕ) (st u r : Amounts) (x y : Amount) (i n : ℕ) → x ≡ y → u ≡ withForm st (isOf x) n → r ≡ paid v m u i n x → r ≡ paid v m (withForm st (isOf y) n) i n y
+paid-by v m st u r x y i n e p q = q ∙ rw (p, e)
 
 pub exchanged-by : (v : Service) (m : List ℕ) (st : Amounts) (i n : ℕ) (a b h : Bool) (f : First) → a ≡ not (st .order .live) → b ≡ says (valueIn v (st .order .at) m 1 0) "57" && cuxHolds (valueIn v (st .order .at) m 1 2) (valueIn v i m)
     → h ≡ a || b → f ≡ lesser (st .first25) (placeUnless h n)
     → amountsOf (orderOf (st .order .live) (st .order .nth) (st .order .at) true (st .order .sum)) (st .first22) (st .first23) (st .first24) f (st .first26) ≡ exchanged v m st i n
 exchanged-by v m st i n a b h f h1 h2 h3 h4 = rw (h4, h3, h1, h2)
 
-pub added-by : (v : Service) (m : List ℕ) (st : Amounts) (i n : ℕ) (a b c d e : Bool) (w s : ℕ) (f g : First) → a ≡ not (st .order .live) → w ≡ worth (amountOf (valueIn v i m 1 1)) → s ≡ min (st .order .sum + w) most
+pub added-by : (v : Service) (m : List ℕ) (st : Amounts) (i n : ℕ) (a b c d e : Bool) (x : Amount) (w s : ℕ) (f g : First) → a ≡ not (st .order .live) → w ≡ worth x → s ≡ min (st .order .sum + w) most
     → b ≡ sameList (valueIn v i m 1 0) (valueIn v (st .order .at) m 1 0) → c ≡ a || b → f ≡ lesser (st .first23) (placeUnless c n)
     → d ≡ sameList (valueIn v i m 1 2) (valueIn v (st .order .at) m 1 2) → e ≡ a || d → g ≡ lesser (st .first24) (placeUnless e n)
-    → amountsOf (orderOf (st .order .live) (st .order .nth) (st .order .at) (st .order .exchanged) s) (st .first22) f g (st .first25) (st .first26) ≡ paid v m st i n
-added-by v m st i n a b c d e w s f g h1 h2 h3 h4 h5 h6 h7 h8 h9 = rw (h6, h9, h5, h8, h4, h7, h3, h2, h1)
+    → amountsOf (orderOf (st .order .live) (st .order .nth) (st .order .at) (st .order .exchanged) s) (st .first22) f g (st .first25) (st .first26) ≡ paid v m st i n x
+added-by v m st i n a b c d e x w s f g h1 h2 h3 h4 h5 h6 h7 h8 h9 = rw (h6, h9, h5, h8, h4, h7, h3, h2, h1)
 
 -- ---- a step
 module _ (v : Service) (m : List ℕ) (st : Amounts) (nth row i : ℕ) (r : Amounts) where
@@ -153,11 +143,11 @@ module _ (v : Service) (m : List ℕ) (st : Amounts) (nth row i : ℕ) (r : Amou
   pub at-cux : row ≡ 24 → r ≡ exchanged v m st i nth → r .order .at ≡ ownAt (st .order .at) row i
   at-cux e q = rw (q, e)
 
-  pub step-paid : row ≡ 51 → r ≡ paid v m (withForm st (isOf (amountOf (valueIn v i m 1 1))) nth) i nth → sumsOf v m r ≡ sumsStep (segAt v m 0 23 0) (sumsOf v m st) (segAt v m nth row i)
+  pub step-paid : row ≡ 51 → r ≡ paid v m (withForm st (isOf (amountOf (valueIn v i m 1 1))) nth) i nth (amountOf (valueIn v i m 1 1)) → sumsOf v m r ≡ sumsStep (segAt v m 0 23 0) (sumsOf v m st) (segAt v m nth row i)
   unfolding sumsStep heldStep firstStep testStep heldInner addStep someStep
   step-paid e q = rw (q, e, lesser-last (st .first25), lesser-last (st .first26))
 
-  pub at-paid : row ≡ 51 → r ≡ paid v m (withForm st (isOf (amountOf (valueIn v i m 1 1))) nth) i nth → r .order .at ≡ ownAt (st .order .at) row i
+  pub at-paid : row ≡ 51 → r ≡ paid v m (withForm st (isOf (amountOf (valueIn v i m 1 1))) nth) i nth (amountOf (valueIn v i m 1 1)) → r .order .at ≡ ownAt (st .order .at) row i
   at-paid e q = rw (q, e)
 
 pub at-other : (st : Amounts) (row i : ℕ) → (row ≡ 17 → ⊥) → (row ≡ 23 → ⊥) → st .order .at ≡ ownAt (st .order .at) row i

@@ -1,6 +1,6 @@
 -- Going from segment to segment: a cursor, and where it stands.
 use mathlib.Core.Path.{_≡_}
-use mathlib.Core.List.{List, _∷_}
+use mathlib.Core.List.{List}
 use Prim.Native.Nat.{ℕ, _<_, _≤_}
 use lib.Dec.{ltb}
 use lib.ListN.{length, drop}

@@ -8,7 +8,7 @@ use Rattle.service.specs.Tests.{alike}
 use Rattle.table.specs.Entries.{parentIn, required}
 use Rattle.chart.specs.Chart.{Rows, none, row}
 use Rattle.chart.specs.forms.Machine.{only, detK, goodK, agree, guidesK, labels, closing}
-use Rattle.chart.specs.forms.Codes.{UNT}
+use Rattle.values.specs.forms.Codes.{UNT}
 use Rattle.chart.specs.Table.{Table, chartOf}
 use Rattle.chart.specs.forms.Columns.{tagOf, parentOf, statusOf, repeatsOf, endOf, reqOf, mostOf, firstOf}
 use Rattle.chart.specs.forms.Next.{nextRow}

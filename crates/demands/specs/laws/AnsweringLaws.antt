@@ -13,14 +13,21 @@ use Rattle.service.specs.declared.Characters.the-variants.{Fit, Unfit}
 use Rattle.service.specs.Service.{charactersOf}
 use Rattle.service.specs.Tests.{if}
 use Rattle.interchange.specs.declared.Refusal.{Refusal}
+use Rattle.interchange.specs.declared.Opening.{Opening}
+use Rattle.interchange.specs.declared.Closing.{Closing}
 use Rattle.interchange.specs.Messages.{endsClosed}
-use Rattle.interchange.specs.Envelope.{refusal}
+use Rattle.interchange.specs.Envelope.{refusal, openingNumber}
+use Rattle.interchange.specs.Opened.{OpenedAs}
+use Rattle.interchange.specs.Closed.{ClosedAs}
+use Rattle.interchange.specs.forms.Answers.{openingOf, closingOf}
+use Rattle.interchange.specs.laws.OpenedLaws.{is-opening}
+use Rattle.interchange.specs.laws.ClosingLaws.{is-closing}
 use Rattle.faults.specs.declared.Fault.{Fault}
 use Rattle.faults.specs.declared.Fault.the-variants as fault
 use Rattle.lent.specs.Lists.{Lists, left}
 use Rattle.chart.specs.Chart.{Placement, FailsAt, Reading}
 use Rattle.chart.specs.Tags.{tagsOf}
-use Rattle.chart.specs.forms.Codes.{UNT}
+use Rattle.values.specs.forms.Codes.{UNT}
 use Rattle.chart.specs.Paymul.{PAYMUL, chart}
 use Rattle.chart.proofs.Theorems.{placed-or-fails, closed-fails}
 use Rattle.chart.proofs.Whole.{fine}
@@ -38,7 +45,7 @@ use Rattle.walk.specs.declared.Walked.the-variants as walked
 use Rattle.walk.specs.Frame.{Step, message, nothing, stepWith, stepFrom}
 use Rattle.walk.specs.Frame as frame
 use Rattle.walk.specs.Walks.{between, Walks, walks-message, walks-nothing, walks-refused}
-use Rattle.twineherald.specs.Numbers.{refusedOf, reportOf, stepOf, Stepped, stepped, Checked, checked, unfit}
+use Rattle.twineherald.specs.Numbers.{refusedOf, reportOf, stepOf, closingNumbers, opened, closed, Stepped, stepped, Checked, checked, unfit}
 use Rattle.demands.specs.laws.AcceptingLaws.{told-in, read}
 use Rattle.demands.specs.Answering.{Some, Answering}
 
@@ -107,6 +114,13 @@ module _ (b : List ℕ) (at : ℕ) (x : Lists) where
   walks : Some (Walks b at x)
   walks = steps-by (stepFrom b at) refl
 
+-- ---- opening and closing
+opening : (s : List ℕ) → (o : Opening) × OpenedAs s o
+opening s = (openingOf s, is-opening s (openingOf s) refl)
+
+closing : (s : List ℕ) → (c : Closing) × ClosedAs s c
+closing s = (closingOf s, is-closing s (closingOf s) refl)
+
 -- ---- for C
 c-checks : (h m : List ℕ) (x : Lists) (c : Characters) → charactersOf h ≡ c → Some (Checked h m x)
 c-checks h m x (Fit v una) e = let g = checks v m x in (left (reportOf (g .0 .answer)) (g .0 .lists), checked v una (g .0 .answer) e (g .1) refl)
@@ -116,4 +130,13 @@ c-walks : (b : List ℕ) (at : ℕ) (x : Lists) → Some (Stepped b at x)
 c-walks b at x = let g = walks b at x in (left (stepOf (g .0 .answer)) (g .0 .lists), stepped (g .0 .answer) (g .1) refl)
 
 pub answering : Answering
-answering = record { check = checks; walk = walks; c-check = λ h m x. c-checks h m x (charactersOf h) refl; c-walk = c-walks }
+answering = record {
+  opening = opening;
+  closing = closing;
+  check = checks;
+  walk = walks;
+  c-open = λ b. let g = opening b in (openingNumber (g .0), opened (g .0) (g .1) refl);
+  c-close = λ b. let g = closing b in (closingNumbers (g .0), closed (g .0) (g .1) refl);
+  c-check = λ h m x. c-checks h m x (charactersOf h) refl;
+  c-walk = c-walks;
+}

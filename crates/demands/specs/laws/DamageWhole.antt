@@ -9,7 +9,10 @@ use lib.Seq.{drop-drop}
 use Rattle.service.specs.declared.Service.{Service}
 use Rattle.interchange.specs.declared.Opening.the-variants.{Opens}
 use Rattle.interchange.specs.Messages.{Extent, closed, startsAt, endsAt, messagesOf}
-use Rattle.interchange.specs.Envelope.{openingOf, bodyOf}
+use Rattle.interchange.specs.Envelope.{bodyOf}
+use Rattle.interchange.specs.Opened.{Opened}
+use Rattle.interchange.specs.forms.Answers.{openingOf}
+use Rattle.interchange.specs.laws.OpenedLaws.{opens}
 use Rattle.interchange.specs.laws.ZeroTheorems.{walks-zero}
 use Rattle.interchange.specs.Damage.{lastClosed, bytesOf, replaced, shifted, Survives}
 use Rattle.interchange.specs.laws.DamageTheorem.{damage, targets}
@@ -94,11 +97,11 @@ module _ (s : List ℕ) (v : Service) (first : ℕ) (o : openingOf s ≡ Opens v
 module _ (s : List ℕ) (v : Service) (first : ℕ) (before : List Extent) (a t e : ℕ) (after : List Extent) (c : Chosen s v first before a t e after)
     (s′ : List ℕ) (w : Survives v s s′ first before after) where
   told-by : (x : Lists) (l : List Visit) → Run s′ x 0 l → Over v s′ x (before ++ (w .kept .between ++ map (shifted (length s) (length s′)) after)) l
-  told-by x l r = run-over s′ v first (w .opens) x (w .walks) r
+  told-by x l r = run-over s′ v first (opens s′ v first (w .opens)) x (w .walks) r
 
   same-by : (x : Lists) (l l′ : List Visit) → Run s x 0 l → Run s′ x 0 l′ → SameOthers (length s) (length s′) a before after l l′
   same-by x l l′ r r′ =
-      let o = run-over s v first (c .opens) x (walks-zero s v first (c .opens)) r in
+      let o = run-over s v first (opens s v first (c .opens)) x (walks-zero s v first (opens s v first (c .opens))) r in
       let f = over-split v s x before (closed a e ∷ after) o (c .target .messages) in
       let g = over-first v s x (closed a e) after (f .over-back) refl in
       let f′ = over-split v s′ x before (w .kept .between ++ map (shifted (length s) (length s′)) after) (told-by x l′ r′) refl in
@@ -121,11 +124,11 @@ module _ (s : List ℕ) (v : Service) (first : ℕ) (before : List Extent) (a t 
   whole = record {
     opens = w .opens;
     between = w .kept .between;
-    steps = steps s′ v first (w .opens) (omega arith) (subst (Inside (length s′)) (w .kept .same) (inside-all s′ v first (w .opens))) (w .walks);
-    owned = owned s′ v first (w .opens) (subst (Inside (length s′)) (w .kept .same) (inside-all s′ v first (w .opens))) (w .owns);
+    steps = steps s′ v first (opens s′ v first (w .opens)) (omega arith) (subst (Inside (length s′)) (w .kept .same) (inside-all s′ v first (opens s′ v first (w .opens)))) (w .walks);
+    owned = owned s′ v first (opens s′ v first (w .opens)) (subst (Inside (length s′)) (w .kept .same) (inside-all s′ v first (opens s′ v first (w .opens)))) (w .owns);
     told = told-by;
-    each-before = each-same s v first (c .opens) s′ (w .opens) before before (w .kept .bytes-before);
-    each-after = each-same s v first (c .opens) s′ (w .opens) after (map (shifted (length s) (length s′)) after) (w .kept .bytes-after);
+    each-before = each-same s v first (opens s v first (c .opens)) s′ (opens s′ v first (w .opens)) before before (w .kept .bytes-before);
+    each-after = each-same s v first (opens s v first (c .opens)) s′ (opens s′ v first (w .opens)) after (map (shifted (length s) (length s′)) after) (w .kept .bytes-after);
     same = same-by;
   }
 
@@ -135,11 +138,11 @@ pub other-messages : (s : List ℕ) (v : Service) (first : ℕ) (before : List E
 other-messages s v first before a t e after c p q d s′ k =
     let n : s′ ≡ replaced s a (edged s a p q d t) t = k .result ∙ edged-is s a p q t d (k .low) (k .high) in
     let h : length (replaced s a (edged s a p q d t) t) ≤ 1048576 = let i = ap length n in let j = k .short in omega arith in
-    let w = damage s v first (c .opens) before a t e after (c .target) (edged s a p q d t) h in
+    let w = damage s v first (opens s v first (c .opens)) before a t e after (c .target) (edged s a p q d t) h in
     subst (λ (y : List ℕ). Unharmed v s y first a before after) (sym n)
     (whole s v first before a t e after c (replaced s a (edged s a p q d t) t) w)
 
 -- every message that has its own UNT, as has the one before it, if there is one, can be so chosen
-pub chosen : (s : List ℕ) (v : Service) (first : ℕ) (before : List Extent) (a e : ℕ) (after : List Extent) → openingOf s ≡ Opens v first
+pub chosen : (s : List ℕ) (v : Service) (first : ℕ) (before : List Extent) (a e : ℕ) (after : List Extent) → Opened s v first
     → messagesOf v s (bodyOf v s first) ≡ before ++ (closed a e ∷ after) → lastClosed true before ≡ true → (t : ℕ) × Chosen s v first before a t e after
 chosen s v first before a e after o m c = let w = targets v s first before a e after m c in (w .0, record { opens = o; target = w .1 })

@@ -6,6 +6,7 @@ use mathlib.Core.List.{List}
 use lib.ListN.{length}
 use Rattle.service.specs.declared.Service.{Service}
 use Rattle.interchange.specs.declared.Refusal.{Refusal}
+use Rattle.interchange.specs.laws.OpenedLaws.{opens}
 use Rattle.lent.specs.Lists.{Lists, Left}
 use Rattle.report.specs.declared.Counts.{Counts}
 use Rattle.report.specs.declared.Report.{Report}
@@ -60,7 +61,7 @@ met = record {
   values-kept = λ s o n e. let f = written-so s (length o) n e in values-kept s (f .characters) (f .first) (f .opens) (f .short);
   twice = λ s o n e. rewrites-again s n o e;
   equal-values = one-to-one;
-  rewriting = keeps;
+  rewriting = λ s v first o h. keeps s v first (opens s v first o) h;
   damage = other-messages;
   any = chosen;
   predecessor = predecessor;

@@ -1,12 +1,11 @@
 -- Rows 9 to 11 hold. Assumes nothing.
 use Prim.Native.Nat.{ℕ}
-use mathlib.Core.Path.{_≡_, refl, sym, _∙_, subst}
+use mathlib.Core.Path.{_≡_, refl, sym, subst}
 use mathlib.Core.List.{List, [], _∷_}
 use Rattle.service.specs.Service.{plainService, isMark, isAlphanumeric, serves, among, distinct, fitting}
 use Rattle.segments.specs.Classes.{classOf}
 use Rattle.segments.specs.SegmentList.{pieces, startsFrom}
 use Rattle.parts.specs.Parts.{lex, elements, valueAt, valueOf, isStrange, strangeFrom}
-use Rattle.values.specs.Numbers.{valueFrom, valueIn}
 use Rattle.values.specs.Text.{sameList, text}
 use Rattle.values.specs.forms.Values.{digits, numberOf, oneMore, units, fraction, codeFrom, isCapital, isCapitals}
 use Rattle.interchange.specs.Messages.{tagAt, closedAt}
@@ -16,7 +15,7 @@ use Rattle.chart.specs.Chart.{Reading}
 use Rattle.chart.specs.forms.Machine.{only, run, step, stepRows, free, freeRows, placed, choose, takes, owed, rowsBy}
 use Rattle.table.specs.Entries.{linesFrom, within}
 use Rattle.chart.specs.Table.{chartOf, rowOver, inside}
-use Rattle.chart.specs.forms.Codes.{UNH, BGM, DTM, LIN, RFF, MOA, FII, SEQ, CNT, UNT, CUX, NAD}
+use Rattle.values.specs.forms.Codes.{UNH, BGM, DTM, LIN, RFF, MOA, FII, SEQ, CNT, UNT, CUX, NAD}
 use Rattle.chart.specs.forms.Columns.{parentOf, firstOf}
 use Rattle.chart.specs.forms.Next.{nextOf, chainFrom, findIn, nextRow as nextRowOn}
 use Rattle.chart.specs.Tags.{tagsFrom, tagsOf}
@@ -27,7 +26,7 @@ use Rattle.chart.proofs.Whole.{fine, reading-of}
 use Rattle.chart.proofs.Paymul.{paymul-sound}
 use Rattle.message.specs.Segs.{segsFrom, segsOf, those, until, stretches, each}
 use Rattle.message.specs.Rules.{some, failing, misnumbered, rule17, rule18, rule20, rule21, rule22, rule23, rule24, rule25, rule26, rule27, rule28, rule29, firstHolds, secondHolds, isBase, basesHold, sum, orderHolds, paymentHolds, detailsHold, paymul}
-use Rattle.message.specs.Faults.{rank, Told, tell, tellAll, least, leastOf}
+use Rattle.message.specs.Faults.{rank, tell, tellAll, least, leastOf}
 use Rattle.report.specs.Reported.{bareOf, rule10, headed, lines, fits, early}
 use Rattle.report.specs.laws.LateLaws.{late-none, late-lowest}
 use Rattle.demands.specs.MessageCases.{room, Holds, Gives, joined, exchange, unnamed, counted, Row9, Row10, Row11}

@@ -5,6 +5,8 @@ use mathlib.Core.List.{List}
 use Rattle.service.specs.declared.Service.{Service}
 use Rattle.service.specs.laws.Unique.{only}
 use Rattle.parts.specs.laws.Unique.{only-component}
+use Rattle.interchange.specs.laws.OpenedLaws.{one-opening}
+use Rattle.interchange.specs.laws.ClosingLaws.{one-closing}
 use Rattle.chart.specs.declared.Cursor.{Cursor}
 use Rattle.chart.specs.forms.Cursor.{CursorIs}
 use Rattle.chart.specs.Paymul.{PAYMUL}
@@ -12,7 +14,7 @@ use Rattle.chart.proofs.Answers.{one-answer}
 use Rattle.amounts.specs.laws.StepLaws.{one-sums}
 use Rattle.report.specs.laws.ReportedLaws.{one-report}
 use Rattle.walk.specs.laws.WalksLaws.{one-walk}
-use Rattle.twineherald.specs.laws.NumbersLaws.{one-step, one-check}
+use Rattle.twineherald.specs.laws.NumbersLaws.{one-open, one-close, one-step, one-check}
 use Rattle.lines.specs.Lines.{messageLine, endLine, openLine}
 use Rattle.demands.specs.OneAnswer.{OnlyLine, filled, OneAnswer}
 
@@ -44,9 +46,9 @@ one = record {
   values-number-is = λ s at v e c n x y p q. only p q;
   interchange-refuse = λ number x y p q. only p q;
   interchange-is-reference = λ n x y p q. only p q;
-  interchange-open = λ s x y p q. only p q;
+  interchange-open = λ s x y p q. one-opening s p q;
   interchange-find = λ s at v x y p q. only p q;
-  interchange-close = λ s x y p q. only p q;
+  interchange-close = λ s x y p q. one-closing s p q;
   faults-earlier = λ a b x y p q. only p q;
   faults-unless = λ holds at x y p q. only p q;
   faults-keep = λ first holds at x y p q. only p q;
@@ -80,18 +82,16 @@ one = record {
   trailer-start = λ x y p q. only p q;
   trailer-step = λ st m v at nth row segments x y p q. only p q;
   rules-judge = λ m v t n k x y p q. only p q;
-  listing-put-segments-rows = λ m v n r s x y p q. only p q;
-  listing-put-segments-starts = λ m v n r s x y p q. only p q;
-  listing-put-totals = λ m v n t x y p q. only p q;
+  listing-put-lists = λ m v t n k l x y p q. only p q;
   report-check = λ m v. one-report v m;
   walk-walk = one-walk;
   rewrite-rewrite = λ s o o1 o2 x y p i q j. ap₂ filled (only p q) (only i j);
   lines-message-line = λ place told. one-line (messageLine place told);
   lines-end-line = λ messages accepted strays closing. one-line (endLine messages accepted strays closing);
   lines-open-line = λ number. one-line (openLine number);
-  twineherald-open = λ b x y p q. only p q;
+  twineherald-open = one-open;
   twineherald-walk = one-step;
   twineherald-check = one-check;
-  twineherald-close = λ b x y p q. only p q;
+  twineherald-close = one-close;
   twineherald-rewrite = λ b o o1 o2 x y p q. ap₂ filled (only (p .numbers) (q .numbers)) (only (p .room) (q .room));
 }

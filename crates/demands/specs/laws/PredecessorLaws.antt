@@ -3,6 +3,7 @@ use Prim.Native.Nat.{ℕ}
 use native.Mathlib.Omega.{arith}
 use mathlib.Core.Path.{_≡_, refl, sym, _∙_}
 use mathlib.Core.List.{List, [], _∷_}
+use Rattle.service.specs.Tests.{lastOf}
 use Rattle.service.specs.Service.{plainService, beginsUna, charactersOf}
 use Rattle.segments.specs.Classes.{classOf}
 use Rattle.segments.specs.SegmentList.{pieces}
@@ -10,7 +11,9 @@ use Rattle.parts.specs.Parts.{lex, elements, valueAt, valueOf}
 use Rattle.values.specs.Text.{text, sameList}
 use Rattle.interchange.specs.declared.Opening.the-variants.{Opens}
 use Rattle.interchange.specs.Messages.{Extent, closed, unclosed, startsAt, endsAt, tagAt, extentOf, messagesOf, cutBefore, foundIn}
-use Rattle.interchange.specs.Envelope.{isReference, isHeader, lastUnz, firstAt, openedBy, openingOf, bodyOf}
+use Rattle.interchange.specs.Envelope.{isReference, isHeader, firstAt, bodyOf}
+use Rattle.interchange.specs.forms.Answers.{openedBy, openingOf}
+use Rattle.interchange.specs.laws.OpenedLaws.{opened}
 use Rattle.interchange.specs.Damage.{Before, here, later}
 use Rattle.walk.specs.Frame.{message, stepAt, stepFrom}
 use Rattle.demands.specs.Runs.{Steps, done, next}
@@ -18,11 +21,11 @@ use Rattle.demands.specs.OtherMessages.{Damaged}
 use Rattle.demands.specs.Predecessor.{whole, hurt, Predecessor}
 
 opens : openingOf whole ≡ Opens plainService 0
-unfolding text charactersOf beginsUna openingOf openedBy firstAt isHeader isReference lastUnz tagAt pieces classOf lex valueOf elements valueAt sameList
+unfolding text charactersOf beginsUna openingOf openedBy firstAt isHeader isReference lastOf tagAt pieces classOf lex valueOf elements valueAt sameList
 opens = refl
 
 opens-still : openingOf hurt ≡ Opens plainService 0
-unfolding text charactersOf beginsUna openingOf openedBy firstAt isHeader isReference lastUnz tagAt pieces classOf lex valueOf elements valueAt sameList
+unfolding text charactersOf beginsUna openingOf openedBy firstAt isHeader isReference lastOf tagAt pieces classOf lex valueOf elements valueAt sameList
 opens-still = refl
 
 was : messagesOf plainService whole (bodyOf plainService whole 0) ≡ unclosed 21 27 ∷ closed 27 45 ∷ closed 45 59 ∷ []
@@ -56,11 +59,11 @@ first-step (next at m ms e r) rest q =
 
 pub predecessor : Predecessor
 predecessor = record {
-  opens = opens;
+  opens = opened whole plainService 0 opens;
   was = was;
   precedes = precedes;
   damaged = damaged;
-  opens-still = opens-still;
+  opens-still = opened hurt plainService 0 opens-still;
   is = is;
   harmed = λ u. first-step (u .steps) _ refl;
 }

@@ -17,16 +17,18 @@ use Rattle.service.specs.laws.FitLaws.{fits-if}
 use Rattle.service.specs.Tests.{if}
 use Rattle.segments.specs.SegmentList.{segmentsFrom, startsOf, startAt}
 use Rattle.segments.specs.laws.StartsLaws.{starts-past, starts-count, starts-here}
-use Rattle.values.specs.Text.{sameList}
-use Rattle.values.specs.Numbers.{valueIn}
-use Rattle.values.specs.forms.Values.{numberOf, isNumber}
 use Rattle.interchange.specs.declared.Refusal.{Refusal}
 use Rattle.interchange.specs.declared.Opening.{Opening}
 use Rattle.interchange.specs.declared.Opening.the-variants as opening
+use Rattle.interchange.specs.declared.Closing.{Closing}
 use Rattle.interchange.specs.declared.Found.{Found}
 use Rattle.interchange.specs.declared.Found.the-variants as found
 use Rattle.interchange.specs.Messages.{endsClosed, foundFrom}
-use Rattle.interchange.specs.Envelope.{headed, ended, firstAt, refusal, openedBy, openingBy, openingNumber, openingOf, closingNumber, closedBy, closingBy, closingOf}
+use Rattle.interchange.specs.Envelope.{refusal, openingNumber}
+use Rattle.interchange.specs.Opened.{OpenFault, long, unfit as unfit-characters, headless, endless, OpenedAs, accepted as opens-as, refused as refused-as}
+use Rattle.interchange.specs.Closed.{CloseFault, count, reference, stray, LeastOrNone, least, none, ClosedAs, unopened, closes as closes-as}
+use Rattle.interchange.specs.forms.Answers.{openingOf}
+use Rattle.interchange.specs.laws.OpenedLaws.{is-opening}
 use Rattle.lent.specs.Lists.{Lists}
 use Rattle.lent.specs.Over.{over}
 use Rattle.chart.specs.Chart.{Reading}
@@ -61,7 +63,8 @@ use Rattle.rewrite.specs.Plain as plain
 use Rattle.twineherald.specs.declared.ReportNumbers.{ReportNumbers}
 use Rattle.twineherald.specs.declared.StepNumbers.{StepNumbers}
 use Rattle.twineherald.specs.declared.RewritingNumbers.{RewritingNumbers}
-use Rattle.twineherald.specs.Numbers.{reportOf, stepOf, rewritingNumbers, Stepped, stepped, Checked, checked, unfit, Rewritten}
+use Rattle.twineherald.specs.declared.ClosingNumbers.{ClosingNumbers}
+use Rattle.twineherald.specs.Numbers.{reportOf, stepOf, rewritingNumbers, OpenedWith, opened as opened-with, ClosedWith, closed as closed-with, Stepped, stepped, Checked, checked, unfit, Rewritten}
 use Rattle.demands.specs.Refusals.{byOpening, byWalking, byRewriting, byClosing, bySegment, Nowhere, Tabled, nowhere, byte, head, last, segment, TabledIn, Beyond, refusalIn, countsIn, Refusals}
 
 -- ---- a refusal at 0, 0
@@ -73,30 +76,19 @@ abbrev Opened : Opening → Type 0
 Opened (opening.Opens v first) = Unit {0}
 Opened (opening.Refused f) = Nowhere byOpening f
 
-opened-by : (v : Service) (s : List ℕ) (first : ℕ) → Opened (openedBy v s first)
-unfolding openedBy among
-opened-by v s first = go (headed v s (segmentsFrom v s first)) (ended v s (segmentsFrom v s first))
-  where
-    go : (a b : Bool) → Opened (if a (if b (opening.Opens v first) (opening.Refused (refusal 4))) (opening.Refused (refusal 3)))
-    go true true = tt
-    go true false = at-none 4 byOpening refl
-    go false b = at-none 3 byOpening refl
-
-opened-with : (s : List ℕ) (c : Characters) → Opened (openingBy s c)
+fault-one : (s : List ℕ) (n : ℕ) → OpenFault s n → among n byOpening ≡ true
 unfolding among
-opened-with s (Fit v una) = opened-by v s (firstAt s una)
-opened-with s Unfit = at-none 2 byOpening refl
+fault-one s n (long w e) = rw e
+fault-one s n (unfit-characters w e) = rw e
+fault-one s n (headless v una c w e) = rw e
+fault-one s n (endless v una c w e) = rw e
 
-opened : (s : List ℕ) → Opened (openingOf s)
-unfolding openingOf among
-opened s = go (ltb 1048576 (length s))
-  where
-    go : (a : Bool) → Opened (if a (opening.Refused (refusal 1)) (openingBy s (charactersOf s)))
-    go true = at-none 1 byOpening refl
-    go false = opened-with s (charactersOf s)
+opened : (s : List ℕ) {o : Opening} → OpenedAs s o → Opened o
+opened s (opens-as v first w) = tt
+opened s (refused-as n l) = at-none n byOpening (fault-one s n (l .one))
 
-opens : (s : List ℕ) (f : Refusal) → openingOf s ≡ opening.Refused f → Nowhere byOpening f
-opens s f e = subst Opened e (opened s)
+opens : (s : List ℕ) (f : Refusal) → OpenedAs s (opening.Refused f) → Nowhere byOpening f
+opens s f w = opened s w
 
 or-right : (a b : Bool) → b ≡ true → (a || b) ≡ true
 or-right true b e = refl
@@ -122,24 +114,26 @@ unfolding among
 among-more n [] l h = absurd (let z : _≡_ {A = ℕ} 0 1 = cc in omega arith)
 among-more n (x ∷ k) l h = or-more (eqb n x) (among n k) (among n (k ++ l)) (among-more n k l) h
 
-closing-number : (v : Service) (s : List ℕ) (first end messages strays : ℕ) → among (closingNumber v s first end messages strays) (0 ∷ byClosing) ≡ true
-unfolding closingNumber among
-closing-number v s first end messages strays = go (isNumber (numberOf (valueIn v end s 1 0)) messages) (sameList (valueIn v first s 5 0) (valueIn v end s 2 0)) (eqb strays 0)
-  where
-    go : (a b c : Bool) → among (if a (if b (if c 0 7) 6) 5) (0 ∷ byClosing) ≡ true
-    go true true true = refl
-    go true true false = refl
-    go true false c = refl
-    go false b c = refl
+closing-one : (v : Service) (s : List ℕ) (first n : ℕ) → CloseFault v s first n → among n (0 ∷ byClosing) ≡ true
+unfolding among
+closing-one v s first n (count w e) = rw e
+closing-one v s first n (reference w e) = rw e
+closing-one v s first n (stray w e) = rw e
 
-closed-by : (s : List ℕ) (o : Opening) → Opened o → among (closingBy s o .number) (0 ∷ byClosing) ≡ true
-unfolding closedBy
-closed-by s (opening.Opens v first) h = closing-number v s first _ _ _
-closed-by s (opening.Refused f) h = or-none (f .number) byClosing (among-more (f .number) byOpening (5 ∷ 6 ∷ 7 ∷ []) (h .number))
+closing-number : (v : Service) (s : List ℕ) (first n : ℕ) → LeastOrNone (CloseFault v s first) n → among n (0 ∷ byClosing) ≡ true
+unfolding among
+closing-number v s first n (least l) = closing-one v s first n (l .one)
+closing-number v s first n (none w e) = rw e
 
-closes : (s : List ℕ) → among (closingOf s .number) (0 ∷ byClosing) ≡ true
-unfolding closingOf
-closes s = closed-by s (openingOf s) (opened s)
+closed-by : (s : List ℕ) {c : Closing} → ClosedAs s c → among (c .number) (0 ∷ byClosing) ≡ true
+closed-by s (unopened n l) = or-none n byClosing (among-more n byOpening (5 ∷ 6 ∷ 7 ∷ []) (fault-one s n (l .one)))
+closed-by s (closes-as v first n o l) = closing-number v s first n l
+
+c-opens : (b : List ℕ) (x : ℕ) → OpenedWith b x → among x (0 ∷ byOpening) ≡ true
+c-opens b x (opened-with o w e) = subst (λ (n : ℕ). among n (0 ∷ byOpening) ≡ true) (sym e) (number-by o (opened b w))
+
+c-closes : (b : List ℕ) (y : ClosingNumbers) → ClosedWith b y → among (y .number) (0 ∷ byClosing) ≡ true
+c-closes b y (closed-with c w e) = subst (λ (n : ClosingNumbers). among (n .number) (0 ∷ byClosing) ≡ true) (sym e) (closed-by b w)
 
 -- ---- a message: number and segment of all that applies
 data Row (k n s : ℕ) : Type 0 where
@@ -400,7 +394,7 @@ wrote-by new old (opening.Refused f) h = record { number = among-more (f .number
 
 wrote : (s old : List ℕ) → Wrote (rewritten s) old (rewritingOf s (length old))
 unfolding rewritingOf
-wrote s old = wrote-by (rewritten s) old (openingOf s) (opened s)
+wrote s old = wrote-by (rewritten s) old (openingOf s) (opened s (is-opening s (openingOf s) refl))
 
 rewrites : (s o : List ℕ) (f : Refusal) → rewritingOf s (length o) ≡ rewriting.Refused f → Nowhere byRewriting f × (roomAfter s o ≡ o)
 unfolding roomAfter
@@ -485,7 +479,7 @@ rewrite-on b o o′ y w =
 pub refusals : Refusals
 refusals = record {
   opening = opens;
-  closing = closes;
+  closing = λ s c w. closed-by s w;
   checking = checks;
   check-beyond = beyond;
   walking = λ b at x x′ f w. walk-told b at x x′ (walked.Refused f) w;
@@ -494,8 +488,8 @@ refusals = record {
   walk-beyond = λ b at a e x x′ c w. walk-told b at x x′ (walked.Message a e (report.Accepted c)) w;
   rewriting = rewrites;
   rewrite-beyond = rewrites-beyond;
-  c-open = λ b. number-by (openingOf b) (opened b);
-  c-close = closes;
+  c-open = c-opens;
+  c-close = c-closes;
   c-check = c-checks;
   c-walk = c-walks;
   c-rewrite = c-rewrites;

@@ -13,7 +13,8 @@ use Rattle.segments.specs.laws.ClearLaws.{passed, upto-start}
 use Rattle.interchange.specs.declared.Found.the-variants as found
 use Rattle.interchange.specs.declared.Opening.the-variants.{Opens}
 use Rattle.interchange.specs.Messages.{Kind, head, trailer, last, other, cut, kindOf, Extent, closed, unclosed, startsAt, endsAt, extentOf, messagesBy, messagesOf, foundFrom}
-use Rattle.interchange.specs.Envelope.{refusal, openingOf, bodyOf}
+use Rattle.interchange.specs.Envelope.{refusal, bodyOf}
+use Rattle.interchange.specs.forms.Answers.{openingOf}
 use Rattle.interchange.specs.laws.OpenedLaws.{opened}
 use Rattle.interchange.specs.laws.FindLaws.{extent-starts}
 use Rattle.interchange.specs.laws.SurveyLaws.{past-within}

@@ -5,7 +5,7 @@ use mathlib.Core.List.{List}
 use lib.ListN.{length}
 use Rattle.service.specs.declared.Service.{Service}
 use Rattle.service.specs.Service.{Fits}
-use Rattle.segments.specs.SegmentList.{segmentsFrom, startsOf}
+use Rattle.segments.specs.SegmentList.{segmentsFrom}
 use Rattle.interchange.specs.declared.Refusal.{Refusal}
 use Rattle.interchange.specs.Messages.{endsClosed}
 use Rattle.lent.specs.Lists.{Lists, left}

@@ -4,6 +4,7 @@ use native.Mathlib.Omega.{arith}
 use mathlib.Core.Path.{_≡_, refl, sym, _∙_, ap, subst}
 use mathlib.Core.List.{List, [], _∷_}
 use lib.ListN.{length, getD}
+use Rattle.service.specs.Tests.{lastOf}
 use Rattle.service.specs.Service.{plainService, isMark, beginsUna, charactersOf}
 use Rattle.segments.specs.Classes.{classOf}
 use Rattle.segments.specs.SegmentList.{pieces, startsFrom}
@@ -13,10 +14,11 @@ use Rattle.values.specs.forms.Values.{digits, oneMore, units, fraction}
 use Rattle.interchange.specs.declared.Refusal.{Refusal}
 use Rattle.interchange.specs.declared.Opening.the-variants.{Opens}
 use Rattle.interchange.specs.Messages.{Extent, closed, tagAt, extentOf, messagesOf}
-use Rattle.interchange.specs.Envelope.{isReference, isHeader, lastUnz, firstAt, openedBy, openingOf, bodyOf}
+use Rattle.interchange.specs.Envelope.{isReference, isHeader, firstAt, bodyOf}
+use Rattle.interchange.specs.forms.Answers.{openedBy, openingOf}
 use Rattle.interchange.specs.laws.ZeroTheorems.{walks-zero}
 use Rattle.interchange.specs.Damage.{bytesOf}
-use Rattle.lent.specs.Lists.{Lists, lists, Left, left}
+use Rattle.lent.specs.Lists.{Lists, Left, left}
 use Rattle.lent.specs.Over.{over}
 use Rattle.chart.specs.Chart.{Reading}
 use Rattle.chart.specs.Tags.{tagsOf}
@@ -136,7 +138,7 @@ module _ (r : Reader) (h : Right r) where
 
 -- ---- the walk
 opens : openingOf two ≡ Opens plainService 0
-unfolding joined text charactersOf beginsUna openingOf openedBy firstAt isHeader isReference lastUnz tagAt pieces classOf lex valueOf elements valueAt sameList
+unfolding joined text charactersOf beginsUna openingOf openedBy firstAt isHeader isReference lastOf tagAt pieces classOf lex valueOf elements valueAt sameList
 opens = refl
 
 abbrev one : Extent

@@ -1,10 +1,10 @@
 -- 28 as the loop goes: a state for each level, and a step for each segment.
 use Prim.Native.Nat.{ℕ}
-use mathlib.Core.List.{List}
 use mathlib.Core.Bool.{Bool, true, false, not, _&&_, _||_}
 use lib.Dec.{eqb}
 use Rattle.service.specs.Tests.{if}
-use Rattle.values.specs.forms.Values.{codeOf, letters}
+use Rattle.values.specs.forms.Values.{codeOf}
+use Rattle.values.specs.forms.Codes as codes
 use Rattle.faults.specs.declared.First.{First}
 use Rattle.faults.specs.declared.First.the-variants as first
 use Rattle.faults.specs.Firsts.{lesser, placeUnless}
@@ -35,9 +35,9 @@ commonComes o = if (o .under) (if (o .common) (o .prc) first.None) first.None
 -- `detailsHold` by the code of the PRC
 unfoldable pub groupHolds : ℕ → Bool → Bool → Bool
 groupHolds x text documents =
-    (eqb x (letters "8") && documents && not text)
-    || ((eqb x (letters "9") || eqb x (letters "10")) && documents && text)
-    || (eqb x (letters "11") && text && not documents)
+    (eqb x codes.EIGHT && documents && not text)
+    || ((eqb x codes.NINE || eqb x codes.TEN) && documents && text)
+    || (eqb x codes.ELEVEN && text && not documents)
 
 abbrev pub placeIf : First → Bool → First
 placeIf first.None t = first.None

@@ -1,7 +1,7 @@
 -- What the run of details comes to: the first fault under 28. Assumes nothing.
 use Prim.Native.Nat.{ℕ}
 use mathlib.Core.Path.{_≡_, refl, sym, ap, _∙_}
-use mathlib.Core.List.{List, [], _∷_, _++_}
+use mathlib.Core.List.{List, [], _∷_}
 use mathlib.Core.Bool.{Bool, true, false, not, _||_}
 use Rattle.service.specs.Tests.{if}
 use Rattle.values.specs.Text.{text}
@@ -9,16 +9,13 @@ use Rattle.values.specs.forms.Values.{codeFrom, codeOf}
 use Rattle.values.specs.laws.TextLaws.{says-code}
 use Rattle.faults.specs.declared.First.{First}
 use Rattle.faults.specs.declared.First.the-variants as first
-use Rattle.faults.specs.Firsts.{lesser}
 use Rattle.message.specs.Segs.{Seg, LIN, SEQ, PRC10, PRC16, FTX16, DOC17, is, those}
 use Rattle.message.specs.Rules.{some, failing, detailsHold, fault28B, fault28C, rule28}
-use Rattle.message.specs.forms.Run.{run, firstOf, testStep, levelStep, close}
+use Rattle.message.specs.forms.Run.{run, firstOf, testStep, levelStep}
 use Rattle.message.specs.laws.FirstLaws.{first-append, first-unless, test-tells}
-use Rattle.message.specs.laws.LevelLaws.{goes, goes-late, Tells, level-tells}
+use Rattle.message.specs.laws.LevelLaws.{goes-late, Tells, level-tells}
 use Rattle.message.specs.forms.Counts.{someStep}
 use Rattle.message.specs.laws.CountLaws.{some-came}
-use Rattle.details.specs.declared.Common.{Common}
-use Rattle.details.specs.declared.Group.{Group}
 use Rattle.details.specs.declared.Details.{Details}
 use Rattle.details.specs.forms.Steps.{commonOf, groupOf, commonInner, groupInner, commonComes, groupHolds, groupComes, level28B, level28C, detailsOf, orderPart, groupPart, detailsStart, detailsStep, detailsClose}
 

@@ -1,25 +1,25 @@
 -- The code's ways through a step of details. Assumes nothing.
 use Prim.Native.Nat.{ℕ}
-use mathlib.Core.Path.{_≡_, refl, sym, ap, _∙_}
+use mathlib.Core.Path.{_≡_, _∙_}
 use mathlib.Core.List.{List}
 use mathlib.Core.Bool.{Bool, true, false, not, _&&_, _||_}
 use lib.Dec.{eqb}
-use borrow.Author.Tests.{eq-eqb, ne-eqb}
+use borrow.Author.Tests.{ne-eqb}
 use Rattle.service.specs.declared.Service.{Service}
 use Rattle.values.specs.Numbers.{valueIn}
-use Rattle.values.specs.forms.Values.{codeFrom, codeOf}
+use Rattle.values.specs.forms.Values.{codeOf}
+use Rattle.values.specs.forms.Codes as codes
 use Rattle.faults.specs.declared.First.{First}
 use Rattle.faults.specs.declared.First.the-variants as first
 use Rattle.faults.specs.Firsts.{lesser, placeUnless}
 use Rattle.faults.specs.laws.FirstsLaws.{lesser-last}
-use Rattle.values.specs.Text.{text}
 use Rattle.message.specs.Segs.{segAt}
 use Rattle.message.specs.forms.Run.{testStep, levelStep, close}
 use Rattle.message.specs.forms.Counts.{someStep}
 use Rattle.details.specs.declared.Common.{Common}
 use Rattle.details.specs.declared.Group.{Group}
 use Rattle.details.specs.declared.Details.{Details}
-use Rattle.details.specs.forms.Steps.{commonOf, groupOf, commonInner, groupInner, commonComes, groupHolds, placeIf, groupComes, level28B, level28C, detailsOf, orderPart, groupPart, detailsStep, detailsClose, withOrder, groupEnded}
+use Rattle.details.specs.forms.Steps.{commonOf, groupOf, commonInner, groupInner, commonComes, groupHolds, groupComes, detailsOf, detailsStep, detailsClose, withOrder, groupEnded}
 
 pub three-first : (a b c : Bool) → a ≡ false → false ≡ a && b && c
 three-first a b c e = rw e
@@ -27,9 +27,9 @@ three-first a b c e = rw e
 pub three-second : (a b c : Bool) → a ≡ true → b ≡ false → false ≡ a && b && c
 three-second a b c e f = rw (e, f)
 
-pub holds-by : (x : ℕ) (t d nt nd two alone both told u r : Bool) → nt ≡ not t → nd ≡ not d → two ≡ eqb x 313 || eqb x 78128 → alone ≡ eqb x 312 && d && nt → both ≡ two && d && t → told ≡ eqb x 78129 && t && nd
+pub holds-by : (x : ℕ) (t d nt nd two alone both told u r : Bool) → nt ≡ not t → nd ≡ not d → two ≡ eqb x codes.NINE || eqb x codes.TEN → alone ≡ eqb x codes.EIGHT && d && nt → both ≡ two && d && t → told ≡ eqb x codes.ELEVEN && t && nd
     → u ≡ alone || both → r ≡ u || told → r ≡ groupHolds x t d
-unfolding groupHolds text codeFrom
+unfolding groupHolds
 holds-by x t d nt nd two alone both told u r a b c e f g h i = rw (i, h, e, f, g, c, a, b)
 
 module _ (o : Common) where

@@ -11,6 +11,7 @@ use Rattle.interchange.proofs.ends_with_unz.Statement.{statement}
 use Rattle.interchange.proofs.ends_with_unz.Tie as tie
 use Rattle.interchange.proofs.ends_with_unz.Reads as reads
 use Rattle.interchange.proofs.ends_with_unz.Lts as lts
+use Rattle.interchange.proofs.near_end.Reads as near-end-reads
 use Rattle.interchange.proofs.tag_at.Reads as tag-at-reads
 use Rattle.segments.proofs.segment_at.Reads as segment-at-reads
 
@@ -19,6 +20,9 @@ Inv-loop s at v i₀ last₀ i last = ended v s (segmentsFrom v s at) ≡ lastUn
 
 abbrev μ-loop : tie.MeasureT-loop
 μ-loop s at v i₀ last₀ i last = length s - i
+
+near-end-requires : tie.Need-near-end-requires Inv-loop μ-loop
+near-end-requires c κs = search (less-segment, unz-done, unz-cut, unz-on, needs)
 
 loop-holds : tie.Need-loop-holds Inv-loop μ-loop
 loop-holds c = search (less-segment, unz-done, unz-cut, unz-on, needs)
@@ -56,6 +60,7 @@ ends-with-unz-spec =
     (tie.spec
     Inv-loop
     μ-loop
+    near-end-requires
     loop-holds
     segment-at-requires
     enum-known-g

@@ -12,7 +12,7 @@ use Rattle.interchange.proofs.find.Tie as tie
 use Rattle.interchange.proofs.find.Reads as reads
 use Rattle.interchange.proofs.find.Lts as lts
 use Rattle.interchange.proofs.find_end.Reads as find-end-reads
-use Rattle.interchange.proofs.tag_at.Reads as tag-at-reads
+use Rattle.interchange.proofs.service_tag.Reads as service-tag-reads
 use Rattle.segments.proofs.segment_at.Reads as segment-at-reads
 use Rattle.segments.proofs.skip_breaks.Reads as skip-breaks-reads
 
@@ -34,8 +34,8 @@ segment-at-requires c κs = search (less-segment, found-start, find-nothing, fin
 enum-known-g : tie.Need-enum-known-g Inv-loop μ-loop
 enum-known-g c = search (less-segment, found-start, find-nothing, find-cut, find-head, find-on, needs)
 
-tag-at-requires : tie.Need-tag-at-requires Inv-loop μ-loop
-tag-at-requires c κs = search (less-segment, found-start, find-nothing, find-cut, find-head, find-on, needs)
+service-tag-requires : tie.Need-service-tag-requires Inv-loop μ-loop
+service-tag-requires c κs = search (less-segment, found-start, find-nothing, find-cut, find-head, find-on, needs)
 
 find-end-requires : tie.Need-find-end-requires Inv-loop μ-loop
 find-end-requires c κs = search (less-segment, found-start, find-nothing, find-cut, find-head, find-on, needs)
@@ -71,7 +71,7 @@ find-spec =
     loop-holds
     segment-at-requires
     enum-known-g
-    tag-at-requires
+    service-tag-requires
     find-end-requires
     returns
     loop-less

@@ -12,7 +12,7 @@ use Rattle.interchange.proofs.find_end.Tie as tie
 use Rattle.interchange.proofs.find_end.Reads as reads
 use Rattle.interchange.proofs.find_end.Lts as lts
 use Rattle.interchange.proofs.is_end.Reads as is-end-reads
-use Rattle.interchange.proofs.tag_at.Reads as tag-at-reads
+use Rattle.interchange.proofs.service_tag.Reads as service-tag-reads
 use Rattle.segments.proofs.segment_at.Reads as segment-at-reads
 
 abbrev Inv-loop : tie.InvT-loop
@@ -30,8 +30,8 @@ segment-at-requires c κs = search (less-segment, segment-end-fits, end-nothing,
 enum-known-g : tie.Need-enum-known-g Inv-loop μ-loop
 enum-known-g c = search (less-segment, segment-end-fits, end-nothing, end-cut, end-trailer, end-head, end-last, end-on, needs)
 
-tag-at-requires : tie.Need-tag-at-requires Inv-loop μ-loop
-tag-at-requires c κs = search (less-segment, segment-end-fits, end-nothing, end-cut, end-trailer, end-head, end-last, end-on, needs)
+service-tag-requires : tie.Need-service-tag-requires Inv-loop μ-loop
+service-tag-requires c κs = search (less-segment, segment-end-fits, end-nothing, end-cut, end-trailer, end-head, end-last, end-on, needs)
 
 add-t11 : tie.Need-add-t11 Inv-loop μ-loop
 add-t11 c = search (less-segment, segment-end-fits, end-nothing, end-cut, end-trailer, end-head, end-last, end-on, needs)
@@ -75,7 +75,7 @@ find-end-spec =
     loop-holds
     segment-at-requires
     enum-known-g
-    tag-at-requires
+    service-tag-requires
     add-t11
     returns
     returns-2

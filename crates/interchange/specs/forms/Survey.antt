@@ -11,6 +11,7 @@ use Rattle.segments.specs.forms.Segments.{segmentAt}
 use Rattle.segments.specs.SegmentList.{Piece, startOf, segmentsFrom}
 use Rattle.interchange.specs.declared.Survey.{Survey}
 use Rattle.interchange.specs.Messages.{Kind, head, trailer, last, other, cut, kindOf, messagesOf, straysOf}
+use Rattle.interchange.specs.Envelope.{ended}
 
 -- where the segment after the one at a position begins, or the end of the bytes
 abbrev pub pastBy : ℕ → Segment → ℕ
@@ -43,3 +44,4 @@ pub record Surveyed (v : Service) (s : List ℕ) (at : ℕ) (r : Survey) : Type 
   pub counted : r .messages ≡ length (messagesOf v s (segmentsFrom v s at))
   pub strayed : r .strays ≡ length (straysOf v s false (segmentsFrom v s at))
   pub stopped : r .end ≡ stopOf v s (farther at (length s)) (segmentsFrom v s at)
+  pub closed : r .ended ≡ ended v s (segmentsFrom v s at)

@@ -8,7 +8,7 @@ use lib.ListN.{length, drop}
 use lib.Seq.{drop-length}
 use lib.Dec.{T, eqb}
 use Rattle.service.specs.declared.Service.{Service}
-use Rattle.service.specs.Tests.{if, isEmpty}
+use Rattle.service.specs.Tests.{if, isEmpty, lastOf}
 use Rattle.segments.specs.SegmentList.{Piece, finished, unfinished, allFinished}
 use Rattle.parts.specs.Parts.{lex, elements}
 use Rattle.parts.specs.laws.ValueLaws.{tag-value}
@@ -18,7 +18,8 @@ use Rattle.values.specs.Text.{sameList, says}
 use Rattle.values.specs.Numbers.{valueFrom, valueIn}
 use Rattle.values.specs.forms.Values.{numberOf, isNumber}
 use Rattle.interchange.specs.Messages.{tagAt, Kind, head, trailer, last, other, cut, kindBy, kindOf, Extent, extentOf, messagesBy, messagesOf, stays, strayBy, straysOf}
-use Rattle.interchange.specs.Envelope.{isReference, isHeader, headed, lastUnz, lastStart, closingNumber}
+use Rattle.interchange.specs.Envelope.{isReference, isHeader, headed, lastUnz, lastStart}
+use Rattle.interchange.specs.forms.Answers.{closingNumber}
 use Rattle.interchange.specs.Alike.{Alike, none, both}
 
 module _ (v : Service) (s : List ℕ) (v′ : Service) (s′ : List ℕ) where
@@ -67,7 +68,7 @@ module _ (v : Service) (s : List ℕ) (v′ : Service) (s′ : List ℕ) where
   same-headed (both a t a′ t′ l l′ q w) = same-header a a′ q
 
   pub same-ended : {l l′ : List Piece} → Alike v s v′ s′ l l′ → (b : Bool) → lastUnz v s b l ≡ lastUnz v′ s′ b l′
-  unfolding lastUnz
+  unfolding lastOf
   same-ended none b = refl
   same-ended (both a t a′ t′ l l′ q w) b = ap (λ (x : List ℕ). lastUnz v s (says x "UNZ") l) (same-tag a a′ q) ∙ same-ended w (says (tagAt v′ s′ a′) "UNZ")
 
@@ -104,7 +105,7 @@ module _ (v : Service) (s : List ℕ) (v′ : Service) (s′ : List ℕ) where
 
   -- the last of them
   pub same-last : {l l′ : List Piece} → Alike v s v′ s′ l l′ → (d d′ : ℕ) → valuesAt v s d ≡ valuesAt v′ s′ d′ → valuesAt v s (lastStart d l) ≡ valuesAt v′ s′ (lastStart d′ l′)
-  unfolding lastStart
+  unfolding lastOf
   same-last none d d′ e = e
   same-last (both a t a′ t′ l l′ q w) d d′ e = same-last w a a′ q
 

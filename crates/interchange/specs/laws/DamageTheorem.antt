@@ -10,7 +10,8 @@ use Rattle.service.specs.laws.FitLaws.{characters-fit}
 use Rattle.segments.specs.SegmentList.{Piece, segmentsFrom, segmentsAfter}
 use Rattle.interchange.specs.declared.Opening.the-variants.{Opens}
 use Rattle.interchange.specs.Messages.{Extent, closed, messagesOf}
-use Rattle.interchange.specs.Envelope.{openingOf, afterFirst, bodyOf}
+use Rattle.interchange.specs.Envelope.{afterFirst, bodyOf}
+use Rattle.interchange.specs.forms.Answers.{openingOf}
 use Rattle.interchange.specs.laws.OpenedLaws.{opened}
 use Rattle.interchange.specs.Walk.{Visits, Own}
 use Rattle.interchange.specs.laws.WalkTheorems.{header, owns}
@@ -39,7 +40,7 @@ damage s v first o before a t e after w d h =
     let k : Kept v s s′ (bodyOf v s′ first) before after =
     subst (λ (l : List Piece). Kept v s s′ l before after) (sym (new-body s v first o f before a t e after p d)) (kept v f s q g before a t e after w′ d) in
     record {
-      opens = o′;
+      opens = opened s′ v first o′;
       kept = k;
       walks = subst (Visits v s′ 0) (k .same) (walks-zero s′ v first o′);
       owns = subst (Own v s′) (k .same) (owns s′ v first o′);

@@ -19,9 +19,9 @@ use Rattle.segments.specs.SegmentList.{Piece, finished, Mode, gap, first, insid
 use Rattle.segments.specs.laws.ListLaws.{list-nothing, list-finished, list-unfinished, segments-after}
 use Rattle.interchange.specs.declared.Found.{Found}
 use Rattle.interchange.specs.declared.Found.the-variants as found
-use Rattle.values.specs.forms.Values.{codeOf}
 use Rattle.interchange.specs.Messages.{tagAt, Kind, head, trailer, last, other, cut, kindOf, Extent, closed, unclosed, startsAt, endsAt, extentBy, extentOf, messagesBy, messagesOf, cutBefore, foundOne, foundBy, foundIn, foundFrom}
-use Rattle.interchange.specs.forms.Kinds.{UNH, UNT, UNZ, kindCode, isEnd}
+use Rattle.values.specs.forms.Codes.{UNH, UNT, UNZ}
+use Rattle.interchange.specs.forms.Kinds.{Tells, kindCode, isEnd}
 use Rattle.interchange.specs.laws.KindLaws.{kind-head, kind-trailer, kind-last, kind-other, kind-at}
 use Rattle.interchange.specs.forms.Found.{endFound}
 
@@ -90,7 +90,7 @@ module _ (x : Found) (v : Service) (s : List ℕ) (a i : ℕ) (inv : x ≡ endFo
   unfolding endFound extentOf cutBefore
   end-cut e = let h = unfinished-within v s i k c e in sym (inv ∙ rw (list-unfinished v s i k c e) (simp (lt-ltb i (length s) h)))
 
-  module _ (t n : ℕ) (e : k ≡ segment.Finished t n) (g : ℕ) (q : g ≡ codeOf (tagAt v s i)) where
+  module _ (t n : ℕ) (e : k ≡ segment.Finished t n) (g : ℕ) (q : Tells (tagAt v s i) g) where
     by-kind : (j : Kind) → kindCode g (leb (length s) n) ≡ j → x ≡ foundOne (extentBy j (finished i t) a (extentOf v s a (segmentsFrom v s n))) (segmentsFrom v s n)
     unfolding endFound extentOf cutBefore
     by-kind j w = inv ∙ rw (list-finished v s i k c t n e, kind-at v s i t n g q, w)
@@ -158,7 +158,7 @@ module _ (x : Found) (v : Service) (s : List ℕ) (i : ℕ) (inv : x ≡ foundIn
   unfolding foundIn messagesOf allFinished
   find-cut e = sym (inv ∙ rw (list-unfinished v s i k c e))
 
-  module _ (t n : ℕ) (e : k ≡ segment.Finished t n) (g : ℕ) (q : g ≡ codeOf (tagAt v s i)) where
+  module _ (t n : ℕ) (e : k ≡ segment.Finished t n) (g : ℕ) (q : Tells (tagAt v s i) g) where
     pub find-head : g ≡ UNH → (y : Found) → y ≡ endFound v s i (segmentsFrom v s n) → y ≡ x
     unfolding foundIn messagesOf endFound cutBefore
     find-head w y d = d ∙ sym (inv ∙ rw (list-finished v s i k c t n e, kind-at v s i t n g q, kind-head g (leb (length s) n) w))

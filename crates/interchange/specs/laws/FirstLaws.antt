@@ -20,7 +20,8 @@ use Rattle.parts.specs.Parts.{lex, valueOf}
 use Rattle.values.specs.Text.{text}
 use Rattle.interchange.specs.declared.Opening.the-variants.{Opens}
 use Rattle.interchange.specs.Messages.{tagAt, messagesOf}
-use Rattle.interchange.specs.Envelope.{firstAt, openingOf, bodyOf}
+use Rattle.interchange.specs.Envelope.{firstAt, bodyOf}
+use Rattle.interchange.specs.forms.Answers.{openingOf}
 use Rattle.interchange.specs.laws.OpenedLaws.{opened}
 use Rattle.interchange.specs.Walk.{Visits}
 use Rattle.interchange.specs.laws.WalkLaws.{settled}

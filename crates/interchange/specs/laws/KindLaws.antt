@@ -12,17 +12,16 @@ use Rattle.service.specs.declared.Service.{Service}
 use Rattle.service.specs.Tests.{if, isEmpty}
 use Rattle.segments.specs.declared.End.{End}
 use Rattle.segments.specs.declared.End.the-variants.{At, None}
-use Rattle.segments.specs.declared.Segment.{Segment}
 use Rattle.segments.specs.forms.Bytes.{endFrom}
 use Rattle.segments.specs.forms.Segments.{segmentBy}
 use Rattle.segments.specs.laws.SegmentsLaws.{segment-by}
 use Rattle.segments.specs.SegmentList.{finished, segmentsFrom}
 use Rattle.segments.specs.laws.SyncLaws.{rest-nothing}
 use Rattle.segments.specs.laws.ListLaws.{listBy, segments-at}
-use Rattle.values.specs.forms.Values.{codeOf}
 use Rattle.interchange.specs.Messages.{tagAt, head, trailer, last, other, kindOf}
-use Rattle.interchange.specs.forms.Kinds.{UNH, UNT, UNZ, kindCode, isEnd}
-use Rattle.interchange.specs.laws.TagLaws.{kind-code}
+use Rattle.values.specs.forms.Codes.{UNH, UNT, UNZ}
+use Rattle.interchange.specs.forms.Kinds.{Tells, kindCode, isEnd}
+use Rattle.interchange.specs.laws.TellsLaws.{kind-tells}
 
 -- no segment is left exactly if no byte is
 some-by : (v : Service) (s : List ℕ) (n : ℕ) (k : End) → isEmpty (listBy (segmentBy s k) n (length s) (segmentsFrom v s)) ≡ false
@@ -71,8 +70,8 @@ unfolding isEnd
 kind-other s g n p q b c e = simp (ne-eqb g UNH p, ne-eqb g UNT q) (not-end s n (eqb g UNZ) (sym c ∙ e))
 
 -- the kind of the segment at i
-pub kind-at : (v : Service) (s : List ℕ) (i t n g : ℕ) → g ≡ codeOf (tagAt v s i) → kindOf v s (finished i t) (segmentsFrom v s n) ≡ kindCode g (leb (length s) n)
-kind-at v s i t n g q = kind-code (tagAt v s i) (isEmpty (segmentsFrom v s n)) ∙ rw (none-list v s n, ← q) refl
+pub kind-at : (v : Service) (s : List ℕ) (i t n g : ℕ) → Tells (tagAt v s i) g → kindOf v s (finished i t) (segmentsFrom v s n) ≡ kindCode g (leb (length s) n)
+kind-at v s i t n g q = kind-tells (tagAt v s i) g q (isEmpty (segmentsFrom v s n)) ∙ rw (none-list v s n) refl
 
 -- no segment follows the end UNZ
 list-end : (v : Service) (s : List ℕ) (n : ℕ) (t : Bool) → if t (leb (length s) n) false ≡ true → segmentsFrom v s n ≡ []

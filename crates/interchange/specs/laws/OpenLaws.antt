@@ -1,14 +1,15 @@
 -- What the tests of opening say of its definitions. Each premise is a fact that a proof has at hand. Assumes nothing.
-use Prim.Native.Nat.{ℕ, suc, _+_, _≤_, _<_}
+use Prim.Native.Nat.{ℕ, _≤_, _<_}
 use native.Mathlib.Decide.{decLt}
 use native.Mathlib.Omega.{arith}
 use mathlib.Core.Path.{_≡_, refl, sym, _∙_, ap}
-use mathlib.Core.List.{List, [], _∷_}
-use mathlib.Core.Bool.{Bool, true, false, _&&_}
+use mathlib.Core.List.{List}
+use mathlib.Core.Bool.{Bool, true, false}
 use lib.ListN.{length, drop, drop-of-length-le}
-use lib.Dec.{eqb, ltb, leb}
+use lib.Dec.{eqb, leb}
 use borrow.Author.Tests.{eq-eqb, ne-eqb, le-ltb, lt-ltb, le-leb, lt-leb}
 use Rattle.service.specs.declared.Service.{Service}
+use Rattle.service.specs.Tests.{lastOf}
 use Rattle.service.specs.declared.Characters.{Characters}
 use Rattle.service.specs.declared.Characters.the-variants.{Fit, Unfit}
 use Rattle.service.specs.Service.{charactersOf}
@@ -19,7 +20,7 @@ use Rattle.segments.specs.declared.Segment.the-variants as segment
 use Rattle.segments.specs.forms.Bytes.{endFrom, pastBreaks}
 use Rattle.segments.specs.forms.Segments.{segmentBy, segmentAt}
 use Rattle.segments.specs.laws.SegmentsLaws.{segment-by}
-use Rattle.segments.specs.SegmentList.{Piece, finished, unfinished, segmentsFrom}
+use Rattle.segments.specs.SegmentList.{segmentsFrom}
 use Rattle.segments.specs.laws.SyncLaws.{rest-nothing}
 use Rattle.segments.specs.laws.ListLaws.{listBy, segments-at, list-nothing, list-finished, list-unfinished}
 use Rattle.parts.specs.Parts.{lex, valueOf}
@@ -29,10 +30,11 @@ use Rattle.values.specs.forms.Values.{codeOf}
 use Rattle.interchange.specs.declared.Refusal.{Refusal}
 use Rattle.interchange.specs.declared.Opening.{Opening}
 use Rattle.interchange.specs.declared.Opening.the-variants.{Opens, Refused}
-use Rattle.interchange.specs.Messages.{tagAt, startOf}
-use Rattle.interchange.specs.forms.Kinds.{UNB, UNZ}
+use Rattle.interchange.specs.Messages.{tagAt}
+use Rattle.values.specs.forms.Codes.{THREE, UNB, UNZ}
 use Rattle.interchange.specs.laws.TagLaws.{unb-code, unz-code, three-code}
-use Rattle.interchange.specs.Envelope.{isReference, isHeader, headed, isUnz, lastUnz, ended, firstAt, refusal, openedBy, openingBy, openingOf}
+use Rattle.interchange.specs.Envelope.{isReference, isHeader, headed, lastUnz, ended, firstAt, refusal}
+use Rattle.interchange.specs.forms.Answers.{openedBy, openingBy, openingOf}
 
 pub reference-none : (n : ℕ) → n < 1 → false ≡ isReference n
 unfolding isReference
@@ -49,13 +51,13 @@ module _ (v : Service) (s : List ℕ) (i g : ℕ) (q : g ≡ codeOf (tagAt v s i
   header-tag h = rw (unb-code (tagAt v s i), ← q) (simp (ne-eqb g UNB h))
 
   module _ (e : g ≡ UNB) (x : ℕ) (c : x ≡ codeOf (valueIn v i s 1 1)) where
-    pub header-version : (x ≡ 307 → ⊥) → false ≡ isHeader v s i
+    pub header-version : (x ≡ THREE → ⊥) → false ≡ isHeader v s i
     unfolding isHeader
-    header-version h = rw (unb-code (tagAt v s i), three-code (valueIn v i s 1 1), ← q, ← c) (simp (eq-eqb g UNB e, ne-eqb x 307 h))
+    header-version h = rw (unb-code (tagAt v s i), three-code (valueIn v i s 1 1), ← q, ← c) (simp (eq-eqb g UNB e, ne-eqb x THREE h))
 
-    pub header-reference : x ≡ 307 → (n : ℕ) → n ≡ length (valueIn v i s 5 0) → (b : Bool) → b ≡ isReference n → b ≡ isHeader v s i
+    pub header-reference : x ≡ THREE → (n : ℕ) → n ≡ length (valueIn v i s 5 0) → (b : Bool) → b ≡ isReference n → b ≡ isHeader v s i
     unfolding isHeader
-    header-reference h n m b r = r ∙ ap isReference m ∙ rw (unb-code (tagAt v s i), three-code (valueIn v i s 1 1), ← q, ← c) (simp (eq-eqb g UNB e, eq-eqb x 307 h))
+    header-reference h n m b r = r ∙ ap isReference m ∙ rw (unb-code (tagAt v s i), three-code (valueIn v i s 1 1), ← q, ← c) (simp (eq-eqb g UNB e, eq-eqb x THREE h))
 
 headed-by : (v : Service) (s : List ℕ) (i : ℕ) (k : End) → headed v s (listBy (segmentBy s k) i (length s) (segmentsFrom v s)) ≡ isHeader v s i
 headed-by v s i (At t) = refl
@@ -78,15 +80,15 @@ headed-at v s i = go (decLt i (length s))
 -- ---- the last segment
 module _ (x : Bool) (v : Service) (s : List ℕ) (i : ℕ) (b : Bool) (inv : x ≡ lastUnz v s b (segmentsFrom v s i)) (k : Segment) (c : k ≡ segmentAt v i s) where
   pub unz-done : k ≡ segment.Nothing → b ≡ x
-  unfolding lastUnz
+  unfolding lastOf
   unz-done e = sym (inv ∙ rw (list-nothing v s i k c e))
 
   pub unz-cut : k ≡ segment.Unfinished → false ≡ x
-  unfolding lastUnz
+  unfolding lastOf
   unz-cut e = sym (inv ∙ rw (list-unfinished v s i k c e))
 
   pub unz-on : (t n : ℕ) → k ≡ segment.Finished t n → (g : ℕ) → g ≡ codeOf (tagAt v s i) → x ≡ lastUnz v s (eqb g UNZ) (segmentsFrom v s n)
-  unfolding lastUnz
+  unfolding lastOf
   unz-on t n e g q = inv ∙ rw (list-finished v s i k c t n e) (ap (λ (y : Bool). lastUnz v s y (segmentsFrom v s n)) (unz-code (tagAt v s i) ∙ ap (λ (y : ℕ). eqb y UNZ) (sym q)))
 
 -- ---- the first segment

@@ -9,6 +9,7 @@ use lib.ListN.{length, take, drop, length-drop, take-append-drop}
 use lib.Seq.{length-take-le, drop-append-le}
 use lib.Dec.{T}
 use Rattle.service.specs.declared.Service.{Service}
+use Rattle.service.specs.Tests.{lastOf}
 use Rattle.service.specs.declared.Characters.the-variants.{Fit}
 use Rattle.service.specs.Service.{Fits, charactersOf}
 use Rattle.service.specs.laws.FitLaws.{characters-fit}
@@ -29,7 +30,8 @@ use Rattle.values.specs.Numbers.{valueFrom}
 use Rattle.values.specs.Text.{text, sameList, says}
 use Rattle.interchange.specs.declared.Opening.the-variants.{Opens}
 use Rattle.interchange.specs.Messages.{tagAt, Extent}
-use Rattle.interchange.specs.Envelope.{isReference, isHeader, headed, isUnz, lastUnz, ended, firstAt, openingOf, afterFirst, bodyOf}
+use Rattle.interchange.specs.Envelope.{isReference, isHeader, headed, isUnz, lastUnz, ended, firstAt, afterFirst, bodyOf}
+use Rattle.interchange.specs.forms.Answers.{openingOf}
 use Rattle.interchange.specs.laws.OpenedLaws.{opened, opens}
 use Rattle.interchange.specs.laws.OpenLaws.{headed-at}
 use Rattle.interchange.specs.laws.WalkTheorems.{header}
@@ -40,8 +42,8 @@ use Rattle.interchange.specs.laws.PlaceLaws.{Place}
 use Rattle.interchange.specs.laws.KeptTheorem.{closing, untBytes, length-front, low-front, run-front, loose-unt, replaced-is, segments-text}
 
 -- ---- the last segment is that of the rest
-last-append : (v : Service) (s : List ℕ) (b : Bool) (l : List Piece) (p : Piece) (r : List Piece) → lastUnz v s b (l ++ (p ∷ r)) ≡ lastUnz v s false (p ∷ r)
-unfolding lastUnz
+pub last-append : (v : Service) (s : List ℕ) (b : Bool) (l : List Piece) (p : Piece) (r : List Piece) → lastUnz v s b (l ++ (p ∷ r)) ≡ lastUnz v s false (p ∷ r)
+unfolding lastOf
 last-append v s b [] p r = refl
 last-append v s b (q ∷ l) p r = last-append v s (isUnz v s q) l p r
 
@@ -50,13 +52,13 @@ unz-moved v x r (finished a t) = ap (λ (g : List ℕ). says g "UNZ") (tag-moved
 unz-moved v x r (unfinished a e) = refl
 
 last-moved : (v : Service) (x r : List ℕ) (b : Bool) (l : List Piece) → lastUnz v (x ++ r) b (map (shift (length x)) l) ≡ lastUnz v r b l
-unfolding lastUnz
+unfolding lastOf
 last-moved v x r b [] = refl
 last-moved v x r b (p ∷ l) = ap (λ (c : Bool). lastUnz v (x ++ r) c (map (shift (length x)) l)) (unz-moved v x r p) ∙ last-moved v x r (isUnz v r p) l
 
 -- behind a UNT stands the UNZ that ends the interchange
 unt-not-last : (v : Service) (s : List ℕ) (b : Bool) (l : List Piece) (u z : ℕ) → tagAt v s u ≡ text "UNT" → lastUnz v s b (l ++ (finished u z ∷ [])) ≡ true → ⊥
-unfolding lastUnz text sameList
+unfolding lastOf text sameList
 unt-not-last v s b l u z e q =
     let x : says (tagAt v s u) "UNZ" ≡ true = sym (last-append v s b l (finished u z) []) ∙ q in
     let y : false ≡ true = ap (λ (g : List ℕ). says g "UNZ") (sym e) ∙ x in
@@ -65,7 +67,7 @@ unt-not-last v s b l u z e q =
 -- so the segments r by themselves, where they stand in two texts, end in the same way
 pub same-last : (v : Service) (x x′ r : List ℕ) (b b′ : Bool) (l l′ : List Piece) (u z : ℕ) → tagAt v (x ++ r) u ≡ text "UNT" → (m : List Piece)
     → lastUnz v (x ++ r) b (l ++ (finished u z ∷ map (shift (length x)) m)) ≡ true → lastUnz v (x′ ++ r) b′ (l′ ++ map (shift (length x′)) m) ≡ true
-unfolding lastUnz
+unfolding lastOf
 same-last v x x′ r b b′ l l′ u z e [] q = absurd (unt-not-last v (x ++ r) b l u z e q)
 same-last v x x′ r b b′ l l′ u z e (p ∷ m) q =
     last-append v (x′ ++ r) b′ l′ (shift (length x′) p) (map (shift (length x′)) m)
@@ -158,7 +160,7 @@ module _ (s : List ℕ) (v : Service) (first : ℕ) (o : openingOf s ≡ Opens v
     old-last : lastUnz v (take e s ++ drop e s) (isUnz v s (finished first (header s v first o .term)))
         (p .most ++ (finished (p .unt) (p .last) ∷ map (shift (length (take e s))) (segmentsAfter v (drop e s) 0)))
         ≡ true
-    unfolding lastUnz
+    unfolding lastOf
     old-last =
         let b : Bool = isUnz v s (finished first (header s v first o .term)) in
         let i = p .high in
@@ -173,7 +175,7 @@ module _ (s : List ℕ) (v : Service) (first : ℕ) (o : openingOf s ≡ Opens v
         ∙ opened s v first o .closes
 
     new-closes : ended v (replaced s a d t) (segmentsFrom v (replaced s a d t) first) ≡ true
-    unfolding lastUnz
+    unfolding lastOf
     new-closes =
         let q : ℕ = header s v first o .term + 1 in
         let u : List ℕ = untBytes s t (p .last) in

@@ -21,10 +21,9 @@ use Rattle.segments.specs.laws.SegmentsLaws.{segment-by, lies}
 use Rattle.segments.specs.SegmentList.{finished, segmentsFrom}
 use Rattle.segments.specs.laws.SyncLaws.{rest-nothing}
 use Rattle.segments.specs.laws.ListLaws.{listBy, segments-at, list-nothing, list-finished, list-unfinished}
-use Rattle.interchange.specs.declared.Survey.{Survey}
-use Rattle.values.specs.forms.Values.{codeOf}
 use Rattle.interchange.specs.Messages.{tagAt, Kind, head, trailer, last, other, extentOf, messagesBy, messagesOf, stays, strayBy, straysOf}
-use Rattle.interchange.specs.forms.Kinds.{UNH, UNT, kindCode, isEnd}
+use Rattle.values.specs.forms.Codes.{UNH, UNT}
+use Rattle.interchange.specs.forms.Kinds.{Tells, kindCode, isEnd}
 use Rattle.interchange.specs.Envelope.{afterFirst, bodyOf}
 use Rattle.interchange.specs.laws.KindLaws.{end-list, kind-head, kind-trailer, kind-last, kind-other, kind-at}
 use Rattle.interchange.specs.forms.Survey.{pastBy, pastAt, stopBy, stopOf, farther}
@@ -111,7 +110,7 @@ module _ (v : Service) (s : List ℕ) (i : ℕ) where
     stop-done at l h x inv = none-stopped at l h k c f ∙ sym inv
 
   -- at a finished segment
-  module _ (k : Segment) (c : k ≡ segmentAt v i s) (t n : ℕ) (e : k ≡ segment.Finished t n) (g : ℕ) (q : g ≡ codeOf (tagAt v s i)) where
+  module _ (k : Segment) (c : k ≡ segmentAt v i s) (t n : ℕ) (e : k ≡ segment.Finished t n) (g : ℕ) (q : Tells (tagAt v s i) g) where
     messages-by : (j : Kind) → kindCode g (leb (length s) n) ≡ j → messagesOf v s (segmentsFrom v s i) ≡ messagesBy j (extentOf v s i (segmentsFrom v s n)) (messagesOf v s (segmentsFrom v s n))
     unfolding messagesOf
     messages-by j w = rw (list-finished v s i k c t n e, kind-at v s i t n g q, w)

@@ -2,13 +2,11 @@
 use Prim.Native.Nat.{ℕ}
 use mathlib.Core.Path.{_≡_, refl}
 use mathlib.Core.List.{List}
-use mathlib.Core.Bool.{Bool}
 use lib.Dec.{eqb}
 use Rattle.values.specs.Text.{text, says}
 use Rattle.values.specs.forms.Values.{codeFrom, codeOf}
 use Rattle.values.specs.laws.TextLaws.{says-code}
-use Rattle.interchange.specs.Messages.{kindBy}
-use Rattle.interchange.specs.forms.Kinds.{UNB, UNH, UNT, UNZ, kindCode}
+use Rattle.values.specs.forms.Codes.{THREE, UNB, UNH, UNT, UNZ}
 
 module _ (l : List ℕ) where
   pub unb-code : says l "UNB" ≡ eqb (codeOf l) UNB
@@ -28,9 +26,6 @@ module _ (l : List ℕ) where
   unz-code = says-code l "UNZ" refl
 
   -- the syntax version
-  pub three-code : says l "3" ≡ eqb (codeOf l) 307
+  pub three-code : says l "3" ≡ eqb (codeOf l) THREE
   unfolding text codeFrom
   three-code = says-code l "3" refl
-
-pub kind-code : (l : List ℕ) (e : Bool) → kindBy l e ≡ kindCode (codeOf l) e
-kind-code l e = rw (unh-code l, unt-code l, unz-code l)

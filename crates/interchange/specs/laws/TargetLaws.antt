@@ -6,7 +6,7 @@ use mathlib.Core.List.{List, [], _∷_, _++_, append-assoc}
 use mathlib.Core.Bool.{Bool, true, false}
 use lib.Dec.{T}
 use Rattle.service.specs.declared.Service.{Service}
-use Rattle.service.specs.Tests.{if, isEmpty}
+use Rattle.service.specs.Tests.{if, isEmpty, lastOf}
 use Rattle.segments.specs.SegmentList.{Piece, finished, unfinished, allFinished}
 use Rattle.values.specs.Text.{text, sameList, says}
 use Rattle.values.specs.laws.TextLaws.{same-eq}
@@ -180,7 +180,7 @@ module _ (v : Service) (s : List ℕ) (a b : ℕ) (r : List Piece) (h : tagAt v 
       → (x y z n : Bool) → n ≡ false → (q : Bool) (i : ℕ) (o : Bool) → stands v s (if x true (if y false q)) l ≡ true
       → let k : Kind = if x head (if y trailer (if z (if n last other) other)) in
       lastClosed o (with q (extentBy k (finished c t) i (extentOf v s i (l ++ (finished a b ∷ r)))) (messagesBy k (extentOf v s c (l ++ (finished a b ∷ r))) (beginning v s l (finished a b ∷ r)))) ≡ false
-  unfolding lastClosed
+  unfolding lastOf
   open-by c t l ih true y z n w true i o g = ih true c false g
   open-by c t l ih true y z n w false i o g = ih true c o g
   open-by c t l ih false true z n w true i o g = ih false i true g
@@ -190,7 +190,7 @@ module _ (v : Service) (s : List ℕ) (a b : ℕ) (r : List Piece) (h : tagAt v 
   open-by c t l ih false false true true w q i o g = absurd (subst T w tt)
 
   open-last : (l : List Piece) (q : Bool) (i : ℕ) (o : Bool) → stands v s q l ≡ true → lastClosed o (with q (extentOf v s i (l ++ (finished a b ∷ r))) (beginning v s l (finished a b ∷ r))) ≡ false
-  unfolding stands lastClosed extentOf beginning text sameList
+  unfolding stands lastOf extentOf beginning text sameList
   open-last [] true i o g = rw h refl
   open-last [] false i o g = absurd (subst T (sym g) tt)
   open-last (finished c t ∷ l) q i o g =

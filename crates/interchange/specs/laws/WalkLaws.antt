@@ -21,9 +21,8 @@ use Rattle.segments.specs.SegmentList.{Piece, finished, unfinished, segmentsFro
 use Rattle.segments.specs.laws.SyncLaws.{skipped, rest-nothing}
 use Rattle.segments.specs.laws.ListLaws.{list-nothing, list-finished, list-unfinished, segments-after}
 use Rattle.values.specs.Text.{says}
-use Rattle.interchange.specs.declared.Found.{Found}
 use Rattle.interchange.specs.declared.Found.the-variants as found
-use Rattle.interchange.specs.Messages.{tagAt, Kind, head, trailer, last, other, cut, kindBy, kindOf, Extent, unclosed, startsAt, endsAt, extentBy, extentOf, messagesBy, messagesOf, cutBefore, foundOne, foundBy, foundIn, foundFrom}
+use Rattle.interchange.specs.Messages.{tagAt, Kind, head, trailer, last, other, cut, kindBy, kindOf, Extent, startsAt, endsAt, extentBy, extentOf, messagesBy, messagesOf, cutBefore, foundOne, foundBy, foundIn, foundFrom}
 use Rattle.interchange.specs.laws.FindLaws.{extent-starts, skip-cut}
 use Rattle.interchange.specs.Walk.{Visits, done, step, Own, none, also}
 

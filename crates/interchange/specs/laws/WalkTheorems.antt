@@ -6,6 +6,7 @@ use mathlib.Core.Bool.{Bool, true, false}
 use lib.ListN.{length, drop}
 use lib.Dec.{T}
 use Rattle.service.specs.declared.Service.{Service}
+use Rattle.service.specs.Tests.{lastOf}
 use Rattle.service.specs.laws.ServiceLaws.{and-left}
 use Rattle.segments.specs.declared.Segment.{Segment}
 use Rattle.segments.specs.declared.Segment.the-variants as segment
@@ -18,7 +19,8 @@ use Rattle.values.specs.laws.TextLaws.{same-eq}
 use Rattle.interchange.specs.declared.Opening.the-variants.{Opens}
 use Rattle.interchange.specs.declared.Closing.{Closing}
 use Rattle.interchange.specs.Messages.{tagAt, messagesOf, foundIn, foundFrom}
-use Rattle.interchange.specs.Envelope.{isHeader, headed, isUnz, lastUnz, openingOf, afterFirst, bodyOf, closedBy, closingBy, closingOf}
+use Rattle.interchange.specs.Envelope.{isHeader, headed, isUnz, lastUnz, afterFirst, bodyOf}
+use Rattle.interchange.specs.forms.Answers.{openingOf, closedBy, closingBy, closingOf}
 use Rattle.interchange.specs.laws.OpenedLaws.{opened}
 use Rattle.interchange.specs.laws.CloseLaws.{Tidy, nil, one, more, tidy-pieces}
 use Rattle.interchange.specs.forms.Survey.{pastAt}
@@ -28,7 +30,7 @@ use Rattle.interchange.specs.laws.WalkLaws.{Placed, both, own, placed, s
 
 -- where the last segment is a finished UNZ, no segment is unfinished
 no-cut : (v : Service) (s : List ℕ) (b : Bool) {l : List Piece} → Tidy l → lastUnz v s b l ≡ true → allFinished l ≡ true
-unfolding lastUnz allFinished
+unfolding lastOf allFinished
 no-cut v s b nil e = refl
 no-cut v s b (one a u) e = absurd (subst T (sym e) tt)
 no-cut v s b (more a t l w) e = no-cut v s (isUnz v s (finished a t)) w e

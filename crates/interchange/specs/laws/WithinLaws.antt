@@ -16,14 +16,16 @@ use Rattle.segments.specs.laws.SyncLaws.{skipped}
 use Rattle.segments.specs.SegmentList.{Piece, finished, unfinished, segmentsFrom, allFinished}
 use Rattle.segments.specs.laws.ListLaws.{list-nothing, list-finished, list-unfinished}
 use Rattle.interchange.specs.declared.Opening.{Opening}
-use Rattle.interchange.specs.declared.Opening.the-variants.{Opens, Refused}
+use Rattle.interchange.specs.declared.Opening.the-variants.{Opens}
 use Rattle.interchange.specs.declared.Closing.{Closing}
 use Rattle.interchange.specs.declared.Found.{Found}
 use Rattle.interchange.specs.declared.Found.the-variants as found
 use Rattle.interchange.specs.Messages.{Kind, head, trailer, last, other, cut, kindOf, Extent, startsAt, endsAt, extentBy, extentOf, messagesBy, messagesOf, stays, strayBy, straysOf, cutBefore, foundBy, foundIn, foundFrom}
-use Rattle.interchange.specs.Envelope.{openingOf, afterFirst, closedBy, closingBy, closingOf}
+use Rattle.interchange.specs.Envelope.{afterFirst, messageCount, strayCount}
+use Rattle.interchange.specs.Opened.{Opened, OpenedAs}
+use Rattle.interchange.specs.Closed.{ClosedAs, unopened, closes}
 use Rattle.interchange.specs.laws.FindLaws.{extent-starts, found-start, unfinished-within}
-use Rattle.interchange.specs.laws.OpenedLaws.{opened}
+use Rattle.interchange.specs.laws.OpenedLaws.{opened, opening-is}
 
 -- ---- the bytes of a message, a part of those from a position on
 pub record Part (s : List ℕ) (at a e : ℕ) : Type 0 where
@@ -150,24 +152,22 @@ module _ (v : Service) (s : List ℕ) where
   few-body (cut-off lo a e p q) = omega arith
 
 -- ---- an interchange that opens has at most 1,048,576 bytes
-pub opened-short : (s : List ℕ) (o : Opening) → o ≡ openingOf s → (v : Service) (first : ℕ) → o ≡ Opens v first → length s ≤ 1048576
-opened-short s o c v first e = opened s v first (sym c ∙ e) .short
+pub opened-short : (s : List ℕ) (o : Opening) → OpenedAs s o → (v : Service) (first : ℕ) → o ≡ Opens v first → length s ≤ 1048576
+opened-short s o w v first e = opened s v first (sym (opening-is s o w) ∙ e) .short
 
 -- "at most 1,048,576 bytes": no more messages and strays than bytes where the interchange opens, and none where it does not
 pub record Few (c : Closing) : Type 0 where
   pub messages : c .messages ≤ 1048576
   pub strays : c .strays ≤ 1048576
 
-small-by : (s : List ℕ) (o : Opening) → openingOf s ≡ o → Few (closingBy s o)
-unfolding closedBy
-small-by s (Opens v first) e =
-    let h = opened s v first e .short in
+pub few-counted : (s : List ℕ) (v : Service) (first : ℕ) → Opened s v first → (messageCount v s first ≤ 1048576) × (strayCount v s first ≤ 1048576)
+few-counted s v first o =
+    let h = o .short in
     let l = few-body v s (row v s (segmentsFrom v s first) first refl) in
     let m = few-messages v s (afterFirst (segmentsFrom v s first)) in
     let k = few-strays v s false (afterFirst (segmentsFrom v s first)) in
-    record { messages = omega arith; strays = omega arith }
-small-by s (Refused f) e = record { messages = omega arith; strays = omega arith }
+    (omega arith, omega arith)
 
-pub closing-small : (s : List ℕ) → Few (closingOf s)
-unfolding closingOf
-closing-small s = small-by s (openingOf s) refl
+pub closing-small : (s : List ℕ) {c : Closing} → ClosedAs s c → Few c
+closing-small s (unopened n l) = record { messages = omega arith; strays = omega arith }
+closing-small s (closes v first n o l) = let w = few-counted s v first o in record { messages = omega arith; strays = omega arith }

@@ -19,7 +19,8 @@ use Rattle.parts.specs.Parts.{lex, valueOf}
 use Rattle.values.specs.Text.{text, sameList}
 use Rattle.interchange.specs.declared.Opening.the-variants.{Opens}
 use Rattle.interchange.specs.Messages.{tagAt, messagesOf, foundIn, foundFrom}
-use Rattle.interchange.specs.Envelope.{firstAt, openingOf, bodyOf}
+use Rattle.interchange.specs.Envelope.{firstAt, bodyOf}
+use Rattle.interchange.specs.forms.Answers.{openingOf}
 use Rattle.interchange.specs.laws.OpenedLaws.{opened}
 use Rattle.interchange.specs.Walk.{allMessages, Visits, Own}
 use Rattle.interchange.specs.laws.WalkLaws.{both, found-skip}

@@ -1,6 +1,6 @@
 -- One entry written. Assumes nothing.
 use Prim.Native.Nat.{ℕ, _<_}
-use mathlib.Core.Path.{_≡_, refl, _∙_}
+use mathlib.Core.Path.{refl, _∙_}
 use mathlib.Core.List.{List}
 use lib.ListN.{set, length-set}
 use lib.Seq.{drop-set-lt}

@@ -1,9 +1,9 @@
 -- A loop over the segments of a message that finds each row from the one before it, with a state of its own. Assumes nothing.
-use Prim.Native.Nat.{ℕ, suc, _+_, _-_, _^_, _≤_, _<_}
+use Prim.Native.Nat.{ℕ, suc, _+_, _^_, _≤_, _<_}
 use native.Mathlib.Omega.{arith}
 use native.Mathlib.Numerals.{add-one}
-use mathlib.Core.Path.{_≡_, refl, sym, ap, _∙_}
-use mathlib.Core.List.{List, [], _∷_}
+use mathlib.Core.Path.{_≡_, sym, _∙_}
+use mathlib.Core.List.{List}
 use lib.ListN.{length}
 use mir.Val.{Fits}
 use mir.Syntax.{w64}
@@ -15,8 +15,7 @@ use Rattle.chart.specs.forms.Machine.{rowsBy}
 use Rattle.chart.specs.forms.Next.{nextRow, rowsOf}
 use Rattle.chart.specs.Table.{Table}
 use Rattle.chart.specs.Tags.{tagsFrom, tagsOf}
-use Rattle.segments.specs.SegmentList.{startsFrom, startsOf}
-use Rattle.segments.specs.laws.StartsLaws.{starts-past}
+use Rattle.segments.specs.SegmentList.{startsFrom}
 use Rattle.chart.proofs.Stream.{left-rows, left-none}
 use Rattle.message.specs.Segs.{Seg, segAt, segsFrom, segsOf}
 use Rattle.message.specs.forms.Run.{run}

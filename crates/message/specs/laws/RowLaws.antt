@@ -6,7 +6,7 @@ use mathlib.Core.Bool.{Bool, not, _&&_}
 use lib.ListN.{getD}
 use lib.Dec.{eqb}
 use Rattle.service.specs.Tests.{if}
-use Rattle.values.specs.forms.Values.{codeFrom, letters}
+use Rattle.values.specs.forms.Codes.{letters}
 use Rattle.chart.specs.forms.Columns.{tagOf, parentOf}
 use Rattle.table.specs.Entries.{linesFrom, within}
 use Rattle.chart.specs.Paymul.{PAYMUL, table, size}
@@ -35,7 +35,7 @@ abbrev pub stands : Name → ℕ → Bool
 stands n r = eqb (tagOf PAYMUL r) (letters (tagAndGroup n .0)) && eqb (parentOf PAYMUL r) (getD groups (tagAndGroup n .1) 0) && not (isGroup r)
 
 pub rows-named : (n : Name) → rowsFrom size 0 (stands n) ≡ rowOf n ∷ []
-unfolding rowsFrom parentOf PAYMUL table linesFrom within text codeFrom
+unfolding rowsFrom parentOf PAYMUL table linesFrom within text
 rows-named UNH = refl
 rows-named LIN = refl
 rows-named MOA5 = refl

@@ -10,6 +10,7 @@ use borrow.Author.Tests.{eq-eqb, ne-eqb}
 use Rattle.service.specs.Tests.{if, isEmpty}
 use Rattle.values.specs.declared.Number.{Number}
 use Rattle.values.specs.declared.Number.the-variants as number
+use Rattle.values.specs.forms.Codes.{EMPTY}
 use Rattle.values.specs.forms.Values.{codeFrom, codeOf, numberOf, isNumber}
 use Rattle.values.specs.laws.NumberLaws.{number-of}
 use Rattle.message.specs.Rules.{writes}
@@ -26,11 +27,11 @@ never-one c (b ∷ l) h e = go (ltb 72057594037927935 c) (ltb b 256) (never-one 
     go false true ih q = ih q
     go false false ih q = omega arith
 
--- a value has the code 1 exactly if it is empty
-pub empty-code : (l : List ℕ) → eqb (codeOf l) 1 ≡ isEmpty l
+-- a value has the code of no letter exactly if it is empty
+pub empty-code : (l : List ℕ) → eqb (codeOf l) EMPTY ≡ isEmpty l
 unfolding codeFrom
 empty-code [] = refl
-empty-code (b ∷ l) = ne-eqb (codeOf (b ∷ l)) 1 (go (ltb b 256))
+empty-code (b ∷ l) = ne-eqb (codeOf (b ∷ l)) EMPTY (go (ltb b 256))
   where
     go : (t : Bool) → if t (codeFrom (256 + b) l) 0 ≡ 1 → ⊥
     go true e = never-one (256 + b) l (omega arith) e

@@ -1,14 +1,14 @@
 -- What the run of numbering comes to: the first faults under 20, 21 and 29. Assumes nothing.
 use Prim.Native.Nat.{ℕ, suc, _+_, min}
 use native.Mathlib.Omega.{arith}
-use mathlib.Core.Path.{_≡_, refl, sym, ap, _∙_}
-use mathlib.Core.List.{List, [], _∷_, _++_}
-use mathlib.Core.Bool.{Bool, true, false, not, _||_}
+use mathlib.Core.Path.{_≡_, refl, sym, _∙_}
+use mathlib.Core.List.{List, [], _∷_}
+use mathlib.Core.Bool.{Bool, true, false}
 use Rattle.faults.specs.declared.First.{First}
 use Rattle.faults.specs.declared.First.the-variants as first
 use Rattle.faults.specs.Firsts.{lesser, placeUnless}
-use Rattle.faults.specs.laws.FirstsLaws.{lesser-last, lesser-group}
-use Rattle.message.specs.Segs.{Seg, Stretch, LIN, SEQ, is, those}
+use Rattle.faults.specs.laws.FirstsLaws.{lesser-last}
+use Rattle.message.specs.Segs.{Seg, LIN, SEQ, is, those}
 use Rattle.message.specs.Rules.{writes, unless, misnumbered, fault21, rule20, rule21, rule29}
 use Rattle.message.specs.forms.Run.{run, firstOf, testStep, levelStep, close}
 use Rattle.message.specs.laws.FirstLaws.{none-lesser, first-append, first-unless, first-more, test-tells}

@@ -1,12 +1,13 @@
 -- The code's ways through a step of numbering. Assumes nothing.
 use Prim.Native.Nat.{ℕ, _+_, min}
-use mathlib.Core.Path.{_≡_, refl, sym, ap, _∙_}
+use mathlib.Core.Path.{_≡_, refl, sym, _∙_}
 use mathlib.Core.List.{List}
-use mathlib.Core.Bool.{Bool, true, false, not, _&&_, _||_}
+use mathlib.Core.Bool.{Bool, true, false, not, _||_}
 use borrow.Author.Tests.{eq-eqb, ne-eqb}
 use lib.Dec.{eqb}
 use Rattle.values.specs.Numbers.{valueIn}
 use Rattle.values.specs.forms.Values.{codeFrom, codeOf}
+use Rattle.values.specs.forms.Codes as codes
 use Rattle.service.specs.declared.Service.{Service}
 use Rattle.service.specs.Tests.{if}
 use Rattle.faults.specs.declared.First.{First}
@@ -22,7 +23,7 @@ use Rattle.message.specs.forms.Counts.{most}
 use Rattle.numbering.specs.declared.Numbering.{Numbering}
 use Rattle.numbering.specs.declared.LineNumber.{LineNumber}
 use Rattle.numbering.specs.declared.SequenceNumber.{SequenceNumber}
-use Rattle.numbering.specs.forms.Steps.{lineStep, countSeq, tellSeq, level21, numberingOf, linePart, sequencePart, numberingStep, lineTaken, sequenceTaken, controlTaken}
+use Rattle.numbering.specs.forms.Steps.{lineStep, countSeq, tellSeq, numberingStep, lineTaken, sequenceTaken, controlTaken}
 
 -- a test of what a segment says, and of another thing where it says so
 pub implies-so : (a b t : Bool) → a ≡ true → t ≡ b → t ≡ not a || b
@@ -32,16 +33,16 @@ pub implies-not : (a b : Bool) → a ≡ false → true ≡ not a || b
 implies-not a b e = rw e
 
 -- "2"
-two-code : (l : List ℕ) → says l "2" ≡ eqb (codeOf l) 306
+two-code : (l : List ℕ) → says l "2" ≡ eqb (codeOf l) codes.TWO
 unfolding text codeFrom
 two-code l = says-code l "2" refl
 
 module _ (x : ℕ) (l : List ℕ) (e : x ≡ codeOf l) where
-  pub two-so : x ≡ 306 → (t b : Bool) → t ≡ b → t ≡ not (says l "2") || b
-  two-so q t b p = rw (two-code l, eq-eqb (codeOf l) 306 (sym e ∙ q)) p
+  pub two-so : x ≡ codes.TWO → (t b : Bool) → t ≡ b → t ≡ not (says l "2") || b
+  two-so q t b p = rw (two-code l, eq-eqb (codeOf l) codes.TWO (sym e ∙ q)) p
 
-  pub two-not : (x ≡ 306 → ⊥) → (b : Bool) → true ≡ not (says l "2") || b
-  two-not q b = rw (two-code l, ne-eqb (codeOf l) 306 (λ w. q (e ∙ w)))
+  pub two-not : (x ≡ codes.TWO → ⊥) → (b : Bool) → true ≡ not (says l "2") || b
+  two-not q b = rw (two-code l, ne-eqb (codeOf l) codes.TWO (λ w. q (e ∙ w)))
 
 tested : (b w : Bool) (f : First) (n : ℕ) → lesser f (placeUnless (not b || w) n) ≡ if b (lesser f (placeUnless w n)) f
 tested true w f n = refl

@@ -1,22 +1,18 @@
 -- What the run of parties comes to: the first fault under 27. Assumes nothing.
 use Prim.Native.Nat.{ℕ, min}
 use native.Mathlib.Omega.{arith}
-use mathlib.Core.Path.{_≡_, refl, sym, ap, _∙_}
-use mathlib.Core.List.{List, [], _∷_, _++_}
+use mathlib.Core.Path.{_≡_, refl, sym, _∙_}
+use mathlib.Core.List.{List, [], _∷_}
 use mathlib.Core.Bool.{Bool, true, false, _&&_, _||_}
-use lib.Dec.{eqb, leb}
 use Rattle.faults.specs.declared.First.{First}
 use Rattle.faults.specs.declared.First.the-variants as first
-use Rattle.faults.specs.Firsts.{lesser, placeUnless}
-use Rattle.message.specs.Segs.{Seg, LIN, FII6, NAD7, SEQ, FII12, NAD13, is, those}
-use Rattle.message.specs.Rules.{count, some, named, party, orderHolds, paymentHolds, fault27B, fault27C, rule27}
-use Rattle.message.specs.forms.Run.{run, firstOf, levelStep, close}
+use Rattle.message.specs.Segs.{Seg, LIN, FII6, NAD7, SEQ, FII12, NAD13, is}
+use Rattle.message.specs.Rules.{named, party, orderHolds, paymentHolds, fault27B, fault27C, rule27}
+use Rattle.message.specs.forms.Run.{run, firstOf, levelStep}
 use Rattle.message.specs.laws.FirstLaws.{first-append, first-unless}
-use Rattle.message.specs.laws.LevelLaws.{goes, goes-late, Tells, level-tells}
+use Rattle.message.specs.laws.LevelLaws.{goes-late, Tells, level-tells}
 use Rattle.message.specs.forms.Counts.{capStep, someStep}
 use Rattle.message.specs.laws.CountLaws.{capped, some-came, cap-eq, cap-one}
-use Rattle.parties.specs.declared.LevelB.{LevelB}
-use Rattle.parties.specs.declared.LevelC.{LevelC}
 use Rattle.parties.specs.declared.Parties.{Parties}
 use Rattle.parties.specs.forms.Steps.{levelB, levelC, orderInner, paymentInner, orderComes, paymentComes, level27B, level27C, partiesOf, orderPart, paymentPart, partiesStart, partiesStep, partiesClose}
 

@@ -1,21 +1,22 @@
 -- The code's ways through a step of parties. Assumes nothing.
-use Prim.Native.Nat.{ℕ, _+_, _≤_, _<_, min}
+use Prim.Native.Nat.{ℕ, _+_, _≤_, _<_}
 use native.Mathlib.Omega.{arith}
-use mathlib.Core.Path.{_≡_, refl, sym, ap, _∙_}
+use mathlib.Core.Path.{_≡_, refl, _∙_}
 use mathlib.Core.List.{List}
-use mathlib.Core.Bool.{Bool, true, false, not, _&&_, _||_}
+use mathlib.Core.Bool.{Bool, true, false, not, _&&_}
 use lib.Dec.{eqb, leb}
 use borrow.Author.Tests.{eq-eqb, ne-eqb}
 use Rattle.service.specs.declared.Service.{Service}
-use Rattle.service.specs.Tests.{if, isEmpty, alike}
+use Rattle.service.specs.Tests.{if, alike}
 use Rattle.values.specs.Numbers.{valueIn}
 use Rattle.values.specs.forms.Values.{codeFrom, codeOf}
+use Rattle.values.specs.forms.Codes as codes
 use Rattle.values.specs.laws.TextLaws.{says-code}
 use Rattle.faults.specs.declared.First.{First}
 use Rattle.faults.specs.declared.First.the-variants as first
 use Rattle.faults.specs.Firsts.{lesser, placeUnless}
 use Rattle.faults.specs.laws.FirstsLaws.{lesser-last}
-use Rattle.values.specs.Text.{text, says}
+use Rattle.values.specs.Text.{text}
 use Rattle.message.specs.Segs.{segAt}
 use Rattle.message.specs.Rules.{orderHolds, paymentHolds}
 use Rattle.message.specs.forms.Run.{levelStep, close}
@@ -24,7 +25,7 @@ use Rattle.message.specs.laws.ValueLaws.{empty-code}
 use Rattle.parties.specs.declared.LevelB.{LevelB}
 use Rattle.parties.specs.declared.LevelC.{LevelC}
 use Rattle.parties.specs.declared.Parties.{Parties}
-use Rattle.parties.specs.forms.Steps.{nameIn, bfHolds, levelB, levelC, orderInner, paymentInner, placeIf, orderComes, paymentComes, level27B, level27C, partiesOf, orderPart, paymentPart, partiesStart, partiesStep, partiesClose, withOrder, withPayment, ended, orderFii, orderNad, paymentFii, paymentNad}
+use Rattle.parties.specs.forms.Steps.{nameIn, bfHolds, levelB, levelC, orderInner, paymentInner, orderComes, paymentComes, partiesStart, partiesStep, partiesClose, withOrder, withPayment, ended, orderFii, orderNad, paymentFii, paymentNad}
 
 -- ---- counts, names, tests
 module _ (t : Bool) (n : ℕ) where
@@ -38,11 +39,11 @@ module _ (t : Bool) (n : ℕ) where
   more-none e = rw e
 
 module _ (value : ℕ → ℕ → List ℕ) (x : ℕ) (p : x ≡ codeOf (value 2 1)) where
-  pub name-second : x ≡ 1 → (y : ℕ) → y ≡ codeOf (value 2 2) → not (eqb y 1) ≡ nameIn value
-  name-second e y q = rw (← empty-code (value 2 1), ← empty-code (value 2 2), ← p, ← q, eq-eqb x 1 e)
+  pub name-second : x ≡ codes.EMPTY → (y : ℕ) → y ≡ codeOf (value 2 2) → not (eqb y codes.EMPTY) ≡ nameIn value
+  name-second e y q = rw (← empty-code (value 2 1), ← empty-code (value 2 2), ← p, ← q, eq-eqb x codes.EMPTY e)
 
-  pub name-first : (x ≡ 1 → ⊥) → true ≡ nameIn value
-  name-first e = rw (← empty-code (value 2 1), ← p, ne-eqb x 1 e)
+  pub name-first : (x ≡ codes.EMPTY → ⊥) → true ≡ nameIn value
+  name-first e = rw (← empty-code (value 2 1), ← p, ne-eqb x codes.EMPTY e)
 
 module _ (a t n : Bool) where
   pub name-before : a ≡ true → true ≡ if (t && n) true a
@@ -110,19 +111,19 @@ closed st u f a b = rw (b, a)
 
 -- ---- letters
 module _ (value : ℕ → ℕ → List ℕ) (x : ℕ) (q : x ≡ codeOf (value 1 0)) (a b : ℕ) (t : Bool) where
-  pub order-fii-by : (o : LevelB) → a ≡ moreIf (eqb x 85842) (o .or) → t ≡ if (eqb x 85842 && nameIn value) true (o .named) → levelB (o .lin) a t (o .pl) (o .oy) ≡ orderFii o value
+  pub order-fii-by : (o : LevelB) → a ≡ moreIf (eqb x codes.OR) (o .or) → t ≡ if (eqb x codes.OR && nameIn value) true (o .named) → levelB (o .lin) a t (o .pl) (o .oy) ≡ orderFii o value
   unfolding text codeFrom
   order-fii-by o e f = rw (says-code (value 1 0) "OR" refl, ← q, e, f)
 
-  pub order-nad-by : (o : LevelB) → a ≡ moreIf (eqb x 86092) (o .pl) → b ≡ moreIf (eqb x 85849) (o .oy) → levelB (o .lin) (o .or) (o .named) a b ≡ orderNad o value
+  pub order-nad-by : (o : LevelB) → a ≡ moreIf (eqb x codes.PL) (o .pl) → b ≡ moreIf (eqb x codes.OY) (o .oy) → levelB (o .lin) (o .or) (o .named) a b ≡ orderNad o value
   unfolding text codeFrom
   order-nad-by o e f = rw (says-code (value 1 0) "PL" refl, says-code (value 1 0) "OY" refl, ← q, e, f)
 
-  pub payment-fii-by : (p : LevelC) → a ≡ moreIf (eqb x 82502) (p .bf) → t ≡ if (eqb x 82502 && nameIn value) true (p .named) → levelC (p .seq) a t (p .pe) (p .be) ≡ paymentFii p value
+  pub payment-fii-by : (p : LevelC) → a ≡ moreIf (eqb x codes.BF) (p .bf) → t ≡ if (eqb x codes.BF && nameIn value) true (p .named) → levelC (p .seq) a t (p .pe) (p .be) ≡ paymentFii p value
   unfolding text codeFrom
   payment-fii-by p e f = rw (says-code (value 1 0) "BF" refl, ← q, e, f)
 
-  pub payment-nad-by : (p : LevelC) → a ≡ moreIf (eqb x 86085) (p .pe) → b ≡ moreIf (eqb x 82501) (p .be) → levelC (p .seq) (p .bf) (p .named) a b ≡ paymentNad p value
+  pub payment-nad-by : (p : LevelC) → a ≡ moreIf (eqb x codes.PE) (p .pe) → b ≡ moreIf (eqb x codes.BE) (p .be) → levelC (p .seq) (p .bf) (p .named) a b ≡ paymentNad p value
   unfolding text codeFrom
   payment-nad-by p e f = rw (says-code (value 1 0) "PE" refl, says-code (value 1 0) "BE" refl, ← q, e, f)
 

@@ -1,5 +1,5 @@
 -- A segment's tokens are those of its own bytes, and the tokens from an element on are those of the elements from there on. Assumes nothing.
-use Prim.Native.Nat.{ℕ, suc, zero, _+_, _-_, _≤_, _<_}
+use Prim.Native.Nat.{ℕ, suc, zero, _-_, _≤_, _<_}
 use native.Mathlib.Omega.{arith}
 use mathlib.Core.Path.{_≡_, refl, sym, _∙_, ap}
 use mathlib.Core.List.{List, [], _∷_}
@@ -9,8 +9,7 @@ use lib.Seq.{drop-nil}
 use Rattle.service.specs.declared.Service.{Service}
 use Rattle.segments.specs.declared.Class.{Class}
 use Rattle.segments.specs.declared.Class.the-variants.{Plain, Comp, Elem, Rel, Term}
-use Rattle.segments.specs.declared.End.{End}
-use Rattle.segments.specs.declared.End.the-variants.{At, None}
+use Rattle.segments.specs.declared.End.the-variants.{At}
 use Rattle.segments.specs.Classes.{classOf}
 use Rattle.segments.specs.forms.Bytes.{endBy, endFrom}
 use Rattle.segments.specs.laws.PartLaws.{end-low}

@@ -12,7 +12,7 @@ use Rattle.segments.specs.declared.End.the-variants.{At}
 use Rattle.segments.specs.Classes.{classOf}
 use Rattle.segments.specs.forms.Bytes.{endBy, endFrom}
 use Rattle.segments.specs.laws.PartLaws.{part-drop, end-low}
-use Rattle.parts.specs.Parts.{Tok, byte, comp, elem, lex, lexBy, elements, valueAt, valueOf}
+use Rattle.parts.specs.Parts.{Tok, byte, comp, elem, lex, lexBy, valueOf}
 
 -- by the next byte: the tokens do not change with what follows the end
 ends-by : (v : Service) (i b : ℕ) (l l′ : List ℕ) (t : ℕ) (k : Class) → ((q : Bool) → endFrom v q (suc i) l ≡ At t → lex v q (l ++ l′) ≡ lex v q l)

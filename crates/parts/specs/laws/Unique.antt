@@ -4,12 +4,11 @@
 use Prim.Native.Nat.{ℕ}
 use mathlib.Core.Path.{_≡_}
 use mathlib.Core.List.{List}
-use mathlib.Core.Bool.{true, false}
+use mathlib.Core.Bool.{false}
 use lib.ListN.{drop}
 use Rattle.service.specs.declared.Service.{Service}
 use Rattle.service.specs.laws.Unique.{only}
 use Rattle.parts.specs.Parts.{lex, valueOf, elements, valueAt}
-use Rattle.parts.specs.forms.Lex.{elemAt, compAt}
 
 module _ (v : Service) (s : List ℕ) (at e c r r′ : ℕ) where
   pub only-component :

@@ -1,6 +1,6 @@
 -- The value that a walk over the tokens finds is the value at that place of the segment's elements. Assumes nothing.
 use Prim.Native.Nat.{ℕ, suc, zero}
-use mathlib.Core.Path.{_≡_, refl, sym, _∙_, ap}
+use mathlib.Core.Path.{_≡_, refl, _∙_, ap}
 use mathlib.Core.List.{List, [], _∷_}
 use lib.ListN.{getD}
 use Rattle.parts.specs.Parts.{Tok, byte, comp, elem, valueOf, elements, valueAt, tagIn, onFirst, onValue}

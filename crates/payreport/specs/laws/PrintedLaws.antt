@@ -6,12 +6,11 @@ use mathlib.Core.List.{List}
 use lib.ListN.{length, take}
 use Rattle.service.specs.declared.Service.{Service}
 use Rattle.interchange.specs.declared.Refusal.{Refusal}
-use Rattle.interchange.specs.declared.Closing.{Closing}
 use Rattle.interchange.specs.declared.Opening.{Opening}
 use Rattle.interchange.specs.declared.Opening.the-variants as opening
-use Rattle.interchange.specs.Envelope.{openingOf, closingOf}
+use Rattle.interchange.specs.Opened.{OpenedAs}
 use Rattle.lent.specs.Lists.{lists}
-use Rattle.lines.specs.Lines.{messageLine, endLine, openLine, Lined}
+use Rattle.lines.specs.Lines.{messageLine, openLine, Lined}
 use Rattle.lines.specs.laws.LinesLaws.{held-is}
 use Rattle.report.specs.declared.Report.{Report}
 use Rattle.walk.specs.declared.Walked.{Walked}
@@ -19,15 +18,15 @@ use Rattle.walk.specs.declared.Walked.the-variants as walked
 use Rattle.walk.specs.Frame.{message, stepFrom}
 use Rattle.walk.specs.laws.PlaceLaws.{walk-count, walk-add}
 use Rattle.walk.specs.Walks.{Walks, walks-nothing, walks-refused}
-use Rattle.payreport.specs.Printed.{accepts, Opened, Judged, judged, Visited, start, next, AcceptedOf, LineOf, unopened, told, end}
+use Rattle.payreport.specs.Printed.{accepts, Opened, Judged, judged, Visited, start, next, AcceptedOf, LineOf, unopened, told}
 
 -- ---- opening
-module _ (s : List ℕ) (o : Opening) (q : o ≡ openingOf s) (h : length s ≤ 32768) where
+module _ (s : List ℕ) (o : Opening) (q : OpenedAs s o) (h : length s ≤ 32768) where
   pub opened-so : (v : Service) (first : ℕ) → o ≡ opening.Opens v first → Opened s
-  opened-so v first e = record { characters = v; first = first; short = h; opens = sym q ∙ e }
+  opened-so v first e = record { characters = v; first = first; short = h; opens = subst (OpenedAs s) e q }
 
   pub unopened-line : (f : Refusal) → o ≡ opening.Refused f → LineOf s (openLine (f .number))
-  unopened-line f e = unopened f h (sym q ∙ e)
+  unopened-line f e = unopened f h (subst (OpenedAs s) e q)
 
 -- ---- a line held in the room
 pub held-line : (s l o new : List ℕ) (k : ℕ) → Lined l o new k → length l ≤ 128 → 128 ≡ length o → LineOf s l → LineOf s (take k new)
@@ -77,7 +76,3 @@ module _ (s : List ℕ) (at n k : ℕ) (r y t : List ℕ) (x : Standing s at n k
     where
       stays : Walks s at (lists r y t) (lists r′ y′ t′) (walked.Refused f) → (a e : ℕ) → message a e ≡ stepFrom s at → ⊥
       stays (walks-refused g u _) a e m = let z : _≡_ {A = ℕ} 0 1 = cc in omega arith
-
--- ---- the last line
-pub end-line : (s : List ℕ) (k : ℕ) (c : Closing) → Opened s → AcceptedOf s k → c ≡ closingOf s → LineOf s (endLine (c .messages) k (c .strays) (c .number))
-end-line s k c o x q = subst (λ (d : Closing). LineOf s (endLine (d .messages) k (d .strays) (d .number))) (sym q) (end k o x)

@@ -54,10 +54,19 @@ outright short fit = if short (if fit 0 2) 1
 abbrev pub earlyFault : Bool → Bool → ℕ → Fault
 earlyFault closed headed n = if closed (if headed (if (ltb 9999 n) (fault.At 13 10000) fault.None) (fault.At 12 1)) (fault.At 11 1)
 
+-- 16, at the segment that begins at p
+abbrev pub misfitAt : Service → List ℕ → ℕ → Fault
+misfitAt v m p = fault.At 16 (passed (length m) p (segmentsFrom v m 0) % 4294967295 + 1)
+
+-- what placing finds, by number and segment: nothing, or 16
+pub data Misfit (v : Service) (m : List ℕ) (f : Fault) : Type 0 where
+  nothing : Reading chart (tagsOf v m) (rowsOf (tagsOf v m)) → f ≡ fault.None → Misfit v m f
+  segment : (p : ℕ) → StuckAt PAYMUL v m p → f ≡ misfitAt v m p → Misfit v m f
+
 -- 16 to 29, in a message of k segments with n LIN tags
 pub data Late (v : Service) (m : List ℕ) (k n : ℕ) (r : Fault) : Type 0 where
   placed : Reading chart (tagsOf v m) (rowsOf (tagsOf v m)) → r ≡ leastOf (tellAll (paymulOf k n (segsOf v m (rowsOf (tagsOf v m))))) → Late v m k n r
-  stuck : (p : ℕ) → StuckAt PAYMUL v m p → r ≡ fault.At 16 (passed (length m) p (segmentsFrom v m 0) % 4294967295 + 1) → Late v m k n r
+  stuck : (p : ℕ) → StuckAt PAYMUL v m p → r ≡ misfitAt v m p → Late v m k n r
 
 -- the refusal under 10, for the byte at p
 abbrev pub byteRefusal : Service → List ℕ → ℕ → Refusal

@@ -4,10 +4,10 @@ use native.Mathlib.Nat.{mod-eq-of-lt}
 use native.Mathlib.Omega.{arith}
 use native.Mathlib.Decide.{decLt}
 use mathlib.Core.Path.{_≡_, refl, sym, ap, ap₂, _∙_, subst}
-use mathlib.Core.List.{List, [], _∷_, map}
+use mathlib.Core.List.{List, [], map}
 use mathlib.Core.Bool.{Bool, true, false, _&&_}
-use lib.ListN.{length, getD, length-map}
-use lib.Dec.{eqb, leb, ltb}
+use lib.ListN.{length, length-map}
+use lib.Dec.{eqb, leb}
 use borrow.Author.Tests.{ne-eqb, le-leb, lt-leb, le-ltb, lt-ltb, leb-true}
 use Rattle.service.specs.declared.Service.{Service}
 use Rattle.service.specs.Service.{Fits, fitting}
@@ -15,7 +15,6 @@ use Rattle.service.specs.laws.FitLaws.{fits-if}
 use Rattle.service.specs.Tests.{if}
 use Rattle.segments.specs.SegmentList.{segmentsFrom}
 use Rattle.segments.specs.laws.StartsLaws.{starts-within}
-use Rattle.parts.specs.Parts.{strangeIn}
 use Rattle.faults.specs.declared.First.{First}
 use Rattle.faults.specs.declared.First.the-variants as first
 use Rattle.faults.specs.declared.Fault.{Fault}
@@ -27,10 +26,10 @@ use Rattle.tally.specs.Places.{passed}
 use Rattle.interchange.specs.declared.Refusal.{Refusal}
 use Rattle.interchange.specs.Messages.{endsClosed}
 use Rattle.interchange.specs.Envelope.{refusal}
-use Rattle.lent.specs.Lists.{Lists, lists}
-use Rattle.listing.specs.Listing.{rowsAfter, startsAfter, totalsAfter}
+use Rattle.lent.specs.Lists.{Lists}
+use Rattle.listing.specs.Listing.{listsAfter}
 use Rattle.chart.specs.Chart.{Reading}
-use Rattle.chart.specs.forms.Codes as codes
+use Rattle.values.specs.forms.Codes as codes
 use Rattle.chart.specs.Answer.{StuckAt}
 use Rattle.chart.proofs.Answers.{unt-stuck}
 use Rattle.chart.specs.Tags.{tagsOf}
@@ -39,25 +38,24 @@ use Rattle.chart.specs.Paymul.{PAYMUL, chart}
 use Rattle.chart.specs.forms.Rows.{rowsOf}
 use Rattle.chart.proofs.Paymul.{paymul-sound}
 use Rattle.message.specs.forms.Run.{firstOf}
-use Rattle.message.specs.Segs.{segsOf, LIN, SEQ, is}
-use Rattle.message.specs.Rules.{count, paymul, paymulOf}
+use Rattle.message.specs.Segs.{segsOf}
+use Rattle.message.specs.Rules.{paymul, paymulOf}
 use Rattle.message.specs.Faults.{told, tellAll, leastOf}
 use Rattle.report.specs.declared.Counts.{Counts}
-use Rattle.report.specs.declared.Report.{Report}
 use Rattle.report.specs.declared.Report.the-variants.{Accepted, Refused}
-use Rattle.report.specs.Reported.{Raw, rawOf, bareOf, Room, toldUnless, rule10, headed, lines, fits, early, Lowest, offsetOf, Reported, accepted, refused, roomOf, filled}
+use Rattle.report.specs.Reported.{Raw, rawOf, bareOf, Room, toldUnless, rule10, headed, fits, early, Lowest, offsetOf, Reported, accepted, refused, roomOf, filled}
 use Rattle.report.specs.laws.EarlyLaws.{early-least, early-lowest, early-none, numbers-told, late-numbers}
 use Rattle.report.specs.laws.LateLaws.{late-none, late-lowest, misfit-lowest}
 use Rattle.report.specs.laws.LeastLaws.{least-told}
 use Rattle.report.specs.laws.SmallLaws.{late-within}
 use Rattle.report.specs.laws.CountLaws.{times, lin-tags, seq-tags}
-use Rattle.report.specs.laws.FillLaws.{rows-are, placed-length, rows-over, starts-over, totals-over}
+use Rattle.report.specs.laws.FillLaws.{rows-are, placed-length, lists-over}
 use Rattle.report.specs.laws.ClosedLaws.{Closes, closes}
 use Rattle.report.specs.forms.Checks.{endsWith, headedAt, outright, earlyFault, Late, placed, stuck, byteRefusal, startBy, refusalAt}
 use Rattle.report.specs.laws.UntLaws.{closed-is}
 use Rattle.report.specs.laws.PieceLaws.{lines-tags, pieces-tags, number-is}
 use Rattle.report.specs.laws.ChecksLaws.{headed-is}
-use Rattle.report.specs.laws.TenLaws.{Ten, ten-none, ten-at}
+use Rattle.report.specs.laws.TenLaws.{ten-none, ten-at}
 
 -- ---- 1, 2 and 10 to 14 as a chain of tests
 first-told : (b : Bool) (s : ℕ) → firstOf (toldUnless b s) ≡ placeUnless b s
@@ -169,9 +167,9 @@ module _ (v : Service) (m : List ℕ) where
         go (no h) true q = let l : length m ≤ 1048576 = omega arith in absurd (z (d ∙ rw (le-leb (length m) 1048576 l, q)))
         go (no h) false q = let l : length m ≤ 1048576 = omega arith in check-unfit l q f (e ∙ ap refusal (d ∙ rw (le-leb (length m) 1048576 l, q)))
 
-    module _ (j : ℕ) (u : j ≡ outright (leb (length m) 1048576) (fitting v)) (y : j ≡ 0) where
+    module _ (u : 0 ≡ outright (leb (length m) 1048576) (fitting v)) where
       ready : (length m ≤ 1048576) × (fitting v ≡ true)
-      ready = go (leb (length m) 1048576) (fitting v) refl refl (sym u ∙ y)
+      ready = go (leb (length m) 1048576) (fitting v) refl refl (sym u)
         where
           go : (a b : Bool) → leb (length m) 1048576 ≡ a → fitting v ≡ b → outright a b ≡ 0 → (length m ≤ 1048576) × (fitting v ≡ true)
           go true true p q e = (leb-true (length m) 1048576 p, q)
@@ -324,24 +322,18 @@ module _ (v : Service) (m : List ℕ) where
                   check-late (stuck p a h) = late-stuck p a h
 
                   -- accepted
-                  module _ (r s t : List ℕ) (r-is : r ≡ rowsAfter PAYMUL v m (z .segments) (x .rows) (x .starts)) (s-is : s ≡ startsAfter v m (z .segments) (x .rows) (x .starts)) (t-is : t ≡ totalsAfter PAYMUL v m (z .orders) (x .totals)) where
-                    filled-by : Reading chart (tagsOf v m) (rowsOf (tagsOf v m)) → lists r s t ≡ filled v m (rowsOf (tagsOf v m)) x
+                  module _ (x′ : Lists) (x′-is : x′ ≡ listsAfter PAYMUL v m (z .segments) (z .orders) x) where
+                    filled-by : Reading chart (tagsOf v m) (rowsOf (tagsOf v m)) → x′ ≡ filled v m (rowsOf (tagsOf v m)) x
                     filled-by rd =
                         let o = orders-are ∙ sym (lin-tags v m (rd .placement)) in
-                        let ro = leb-true _ _ (room .0) in
-                        let so = leb-true _ _ (room .1) in
-                        let to = leb-true _ _ (room .2) in
-                        let p′ = r-is ∙ rows-over v m (z .segments) (x .rows) (x .starts) segments-are ro so in
-                        let q′ = s-is ∙ starts-over v m (z .segments) (x .rows) (x .starts) segments-are ro so small in
-                        let u′ = t-is ∙ totals-over v m (z .orders) (x .totals) (rd .placement) o to in
-                        λ i. lists (p′ i) (q′ i) (u′ i)
+                        x′-is ∙ lists-over v m (z .segments) (z .orders) x segments-are (leb-true _ _ (room .0)) (leb-true _ _ (room .1)) (leb-true _ _ (room .2)) small (rd .placement) o
 
-                    done-by : Late v m (z .segments) (z .orders) l → l ≡ fault.None → (n : Counts) → n ≡ record { segments = z .segments; orders = z .orders; payments = z .payments } → Reported v m x (lists r s t) (Accepted n)
+                    done-by : Late v m (z .segments) (z .orders) l → l ≡ fault.None → (n : Counts) → n ≡ record { segments = z .segments; orders = z .orders; payments = z .payments } → Reported v m x x′ (Accepted n)
                     done-by (stuck p a h) y n k = absurd (not-none 16 _ (sym h ∙ y))
                     done-by (placed rd h) y n k =
                         let o = orders-are ∙ sym (lin-tags v m (rd .placement)) in
                         accepted n (rowsOf (tagsOf v m)) rd (late-none v m (roomOf x) (rowsOf (tagsOf v m)) rd none-early (sym (counted rd h) ∙ y))
                         (k ∙ rw (segments-are ∙ sym (placed-length v m), o, payments-are ∙ sym (seq-tags v m (rd .placement)))) (filled-by rd)
 
-                    pub check-done : Late v m (z .segments) (z .orders) l → l ≡ fault.None → Reported v m x (lists r s t) (Accepted (record { segments = z .segments; orders = z .orders; payments = z .payments }))
+                    pub check-done : Late v m (z .segments) (z .orders) l → l ≡ fault.None → Reported v m x x′ (Accepted (record { segments = z .segments; orders = z .orders; payments = z .payments }))
                     check-done a y = done-by a y (record { segments = z .segments; orders = z .orders; payments = z .payments }) refl

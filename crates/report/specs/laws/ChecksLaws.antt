@@ -5,17 +5,18 @@ use mathlib.Core.Path.{_≡_, refl, sym, ap, _∙_, subst}
 use mathlib.Core.List.{List, [], _∷_, map}
 use mathlib.Core.Bool.{Bool, true, false, _&&_}
 use lib.ListN.{length, drop}
-use lib.Dec.{eqb, leb, ltb}
+use lib.Dec.{eqb, leb}
 use borrow.Author.Tests.{lt-ltb, le-ltb, lt-leb, le-leb}
 use Rattle.service.specs.declared.Service.{Service}
 use Rattle.segments.specs.declared.Segment.{Segment}
 use Rattle.segments.specs.declared.Segment.the-variants.{Finished, Unfinished, Nothing}
 use Rattle.segments.specs.forms.Segments.{segmentAt}
-use Rattle.segments.specs.SegmentList.{Piece, startOf, segmentsFrom, startAt}
+use Rattle.segments.specs.SegmentList.{Piece, segmentsFrom, startAt}
 use Rattle.parts.specs.Parts.{lex, valueOf}
 use Rattle.parts.specs.laws.ValueLaws.{tag-value}
 use Rattle.values.specs.Numbers.{valueFrom, valueIn}
 use Rattle.values.specs.forms.Values.{codeFrom, codeOf}
+use Rattle.values.specs.forms.Codes as codes
 use Rattle.faults.specs.declared.First.{First}
 use Rattle.faults.specs.declared.First.the-variants as first
 use Rattle.faults.specs.declared.Fault.{Fault}
@@ -26,18 +27,19 @@ use Rattle.interchange.specs.declared.Refusal.{Refusal}
 use Rattle.interchange.specs.Envelope.{isReference}
 use Rattle.chart.specs.declared.Placed.{Placed}
 use Rattle.chart.specs.declared.Placed.the-variants.{Whole, Stuck}
+use Rattle.chart.specs.Chart.{Reading}
 use Rattle.chart.specs.Tags.{tagsOf}
 use Rattle.chart.specs.Answer.{Answers}
-use Rattle.chart.specs.Paymul.{PAYMUL}
+use Rattle.chart.specs.Paymul.{PAYMUL, chart}
 use Rattle.chart.specs.forms.Rows.{rowsOf}
-use Rattle.values.specs.Text.{text, sameList, says}
+use Rattle.values.specs.Text.{text, sameList}
 use Rattle.values.specs.laws.TextLaws.{says-code}
 use Rattle.interchange.specs.laws.TagLaws.{unh-code}
-use Rattle.message.specs.Segs.{segsOf}
 use Rattle.message.specs.Rules.{paymulOf}
 use Rattle.message.specs.Faults.{tellAll, leastOf}
+use Rattle.rules.specs.Placed.{placedOn}
 use Rattle.report.specs.Reported.{rawOf, headed}
-use Rattle.report.specs.forms.Checks.{endsBy, endsWith, typed, headedAt, outright, earlyFault, Late, placed, stuck, byteRefusal, startBy, refusalAt}
+use Rattle.report.specs.forms.Checks.{endsBy, endsWith, typed, headedAt, outright, earlyFault, misfitAt, Misfit, nothing, segment, Late, placed, stuck, byteRefusal, startBy, refusalAt}
 
 module _ (v : Service) (m : List ℕ) (f : First) where
   pub closed-none : f ≡ first.None → false ≡ endsWith v m f
@@ -54,12 +56,12 @@ module _ (v : Service) (m : List ℕ) (f : First) where
     closed-nothing q = rw e (ap (endsBy (length m)) (sym q ∙ c))
 
 pub typed-by : (v : Service) (m : List ℕ) (u : Bool) (w x y z : ℕ) (a b c r : Bool) → w ≡ codeOf (valueIn v 0 m 2 0) → x ≡ codeOf (valueIn v 0 m 2 1) → y ≡ codeOf (valueIn v 0 m 2 2) → z ≡ codeOf (valueIn v 0 m 2 3)
-    → a ≡ u && eqb w 369716578047308 → b ≡ a && eqb x 324 → c ≡ b && eqb y 20526657 → r ≡ c && eqb z 87374 → r ≡ typed v m u
+    → a ≡ u && eqb w codes.PAYMUL → b ≡ a && eqb x codes.D → c ≡ b && eqb y codes.NINETY-SIX-A → r ≡ c && eqb z codes.UN → r ≡ typed v m u
 unfolding text codeFrom
 typed-by v m u w x y z a b c r h1 h2 h3 h4 h5 h6 h7 h8 =
     h8 ∙ rw (h7, h6, h5, h1, h2, h3, h4, says-code (valueIn v 0 m 2 0) "PAYMUL" refl, says-code (valueIn v 0 m 2 1) "D" refl, says-code (valueIn v 0 m 2 2) "96A" refl, says-code (valueIn v 0 m 2 3) "UN" refl)
 
-pub header-by : (v : Service) (m : List ℕ) (g n : ℕ) (t u r : Bool) → g ≡ codeOf (valueFrom v 0 m) → n ≡ length (valueIn v 0 m 1 0) → t ≡ isReference n → u ≡ eqb g 22367816 && t → r ≡ typed v m u → r ≡ headedAt v m
+pub header-by : (v : Service) (m : List ℕ) (g n : ℕ) (t u r : Bool) → g ≡ codeOf (valueFrom v 0 m) → n ≡ length (valueIn v 0 m 1 0) → t ≡ isReference n → u ≡ eqb g codes.UNH && t → r ≡ typed v m u → r ≡ headedAt v m
 header-by v m g n t u r h1 h2 h3 h4 h5 = h5 ∙ rw (h4, h3, h2, h1, unh-code (valueFrom v 0 m))
 
 -- the message begins with its first segment
@@ -100,14 +102,35 @@ module _ (c h : Bool) (n : ℕ) where
 pub fits-by : (a b c u r : Bool) → u ≡ a && b → r ≡ u && c → r ≡ a && b && c
 fits-by a b c u r p q = q ∙ rw p
 
-module _ (v : Service) (m : List ℕ) (k n : ℕ) (x : Placed) (w : Answers PAYMUL v m x) where
-  pub late-placed : x ≡ Whole → (r : Fault) → r ≡ leastOf (tellAll (paymulOf k n (segsOf v m (rowsOf (tagsOf v m))))) → Late v m k n r
-  late-placed e r h = placed (subst (Answers PAYMUL v m) e w) h
+module _ (v : Service) (m : List ℕ) (x : Placed) (w : Answers PAYMUL v m x) where
+  pub misfit-none : x ≡ Whole → Misfit v m fault.None
+  misfit-none e = nothing (subst (Answers PAYMUL v m) e w) refl
 
-  pub late-stuck : (p : ℕ) → x ≡ Stuck p → (b o : ℕ) → b ≡ passed (length m) p (segmentsFrom v m 0) → o ≡ b % 4294967295 + 1 → Late v m k n (fault.At 16 o)
-  late-stuck p e b o h g = stuck p (subst (Answers PAYMUL v m) e w) (rw (g, h))
+  pub misfit-some : (p : ℕ) → x ≡ Stuck p → (f : Fault) → f ≡ misfitAt v m p → Misfit v m f
+  misfit-some p e f q = segment p (subst (Answers PAYMUL v m) e w) q
+
+no-misfit : (a b : ℕ) → fault.None ≡ fault.At a b → ⊥
+no-misfit a b e = let z : _≡_ {A = ℕ} 0 1 = cc in omega arith
+
+module _ (v : Service) (m : List ℕ) (k n : ℕ) (f : Fault) (w : Misfit v m f) where
+  late-found : Misfit v m f → f ≡ fault.None → Reading chart (tagsOf v m) (rowsOf (tagsOf v m))
+  late-found (nothing r e) q = r
+  late-found (segment p a e) q = absurd (no-misfit 16 _ (sym q ∙ e))
+
+  pub late-placed : f ≡ fault.None → (t : List (List ℕ)) → t ≡ PAYMUL → (r : Fault) → r ≡ leastOf (tellAll (paymulOf k n (placedOn t v m))) → Late v m k n r
+  late-placed e t q r h = placed (late-found w e) (h ∙ ap (λ (y : List (List ℕ)). leastOf (tellAll (paymulOf k n (placedOn y v m)))) q)
+
+  late-at : Misfit v m f → (a b : ℕ) → f ≡ fault.At a b → Late v m k n f
+  late-at (nothing r e) a b q = absurd (no-misfit a b (sym e ∙ q))
+  late-at (segment p u e) a b q = stuck p u e
+
+  pub late-stuck : (a b : ℕ) → f ≡ fault.At a b → Late v m k n f
+  late-stuck = late-at w
 
 module _ (v : Service) (m : List ℕ) where
+  pub misfit-by : (p b o : ℕ) → b ≡ passed (length m) p (segmentsFrom v m 0) → o ≡ b % 4294967295 + 1 → fault.At 16 o ≡ misfitAt v m p
+  misfit-by p b o e f = rw (f, e)
+
   pub byte-by : (p b o x y : ℕ) → b ≡ passed (length m) p (segmentsFrom v m 0) → o ≡ b % 4294967295 + 1 → x ≡ o % 4294967296 → y ≡ p % 4294967296
       → _≡_ {A = Refusal} (record { number = 10; segment = x; offset = y }) (byteRefusal v m p)
   byte-by p b o x y e f g h = rw (g, h, f, e)

@@ -15,10 +15,9 @@ use Rattle.segments.specs.forms.Segments.{segmentAt}
 use Rattle.segments.specs.laws.SegmentsLaws.{lies, segment-nothing}
 use Rattle.segments.specs.SegmentList.{Piece, finished, segmentsFrom}
 use Rattle.segments.specs.laws.ListLaws.{list-nothing, list-finished, list-unfinished}
-use Rattle.chart.specs.forms.Codes.{UNT, LIN, SEQ}
+use Rattle.values.specs.forms.Codes.{UNT, LIN, SEQ}
 use Rattle.chart.specs.Tags.{tagOn, tagsFrom, tagsOf}
 use Rattle.chart.specs.laws.TagsLaws.{tags-past, tags-finished}
-use Rattle.tally.specs.declared.Tally.{Tally}
 use Rattle.tally.specs.Tallied.{oneIf, tallyOf}
 use Rattle.values.specs.Text.{says}
 use Rattle.values.specs.Numbers.{valueFrom}

@@ -1,20 +1,20 @@
 -- LIN and SEQ tags are counted as their rows are: on the chart each has one row that takes its tag. Assumes nothing.
-use Prim.Native.Nat.{ℕ, zero, suc, _+_, _≤_, _<_}
+use Prim.Native.Nat.{ℕ, zero, suc, _<_}
 use native.Mathlib.Omega.{arith}
-use mathlib.Core.Path.{_≡_, refl, sym, ap, subst, _∙_}
+use mathlib.Core.Path.{_≡_, refl, sym, ap, _∙_}
 use mathlib.Core.Logic.{_⊎_, inl, inr}
 use mathlib.Core.List.{List, [], _∷_, map}
-use mathlib.Core.Bool.{Bool, true, false, not}
+use mathlib.Core.Bool.{Bool, true, false}
 use lib.ListN.{length, getD}
 use lib.Dec.{T, eqb, ltb}
-use borrow.Author.Tests.{eqb-true, ltb-true, eq-eqb, ne-eqb}
+use borrow.Author.Tests.{eqb-true, ltb-true}
 use Rattle.service.specs.declared.Service.{Service}
 use Rattle.service.specs.Tests.{if, alike}
 use Rattle.chart.specs.forms.Machine.{rowsBy}
 use Rattle.table.specs.Entries.{linesFrom, within, text}
 use Rattle.chart.specs.forms.Columns.{tagOf, firstOf}
 use Rattle.chart.specs.Chart.{Placement}
-use Rattle.chart.specs.forms.Codes.{LIN, SEQ}
+use Rattle.values.specs.forms.Codes.{LIN, SEQ}
 use Rattle.chart.specs.forms.Next.{nextOf, chainFrom, findIn, nextRow as nextRowOn}
 use Rattle.segments.specs.SegmentList.{startsOf}
 use Rattle.chart.specs.Tags.{tagsOf}
@@ -25,8 +25,8 @@ use Rattle.chart.proofs.Guide.{rows-length}
 use Rattle.chart.specs.forms.Sound.{all-to}
 use Rattle.chart.proofs.Nest.{alike-eq, at-each}
 use Rattle.chart.proofs.Paymul.{paymul-sound}
-use Rattle.chart.proofs.Whole.{placed-rows, placed-tags}
-use Rattle.message.specs.Segs.{Seg, segAt, segsFrom, segsOf, those}
+use Rattle.chart.proofs.Whole.{placed-tags}
+use Rattle.message.specs.Segs.{segAt, segsFrom, segsOf, those}
 use Rattle.message.specs.Rules.{count}
 
 -- how often a number stands in a list
@@ -55,7 +55,7 @@ segs-times w v m n (r ∷ rs) (i ∷ is) e = go (eqb r w) refl (segs-times w v m
     go true q ih = ap suc ih
     go false q ih = ih
 
-rows-many : length PAYMUL ≡ size
+pub rows-many : length PAYMUL ≡ size
 unfolding PAYMUL table linesFrom
 rows-many = refl
 

@@ -10,7 +10,6 @@ use borrow.Author.Tests.{lt-leb}
 use Rattle.service.specs.declared.Service.{Service}
 use Rattle.service.specs.Tests.{if}
 use Rattle.segments.specs.SegmentList.{segmentsFrom, startsOf}
-use Rattle.interchange.specs.declared.Refusal.{Refusal}
 use Rattle.lent.specs.Lists.{Lists}
 use Rattle.chart.specs.laws.TagsLaws.{same-count}
 use Rattle.message.specs.Segs.{Seg, segsFrom, segsOf, those, LIN, SEQ, is}

@@ -2,16 +2,18 @@
 use Prim.Native.Nat.{ℕ, suc, _≤_}
 use native.Mathlib.Omega.{arith}
 use mathlib.Core.Path.{_≡_, refl, sym, ap, _∙_}
-use mathlib.Core.List.{List, [], _∷_}
+use mathlib.Core.List.{List, [], _∷_, map}
 use lib.ListN.{length, take, length-map}
 use lib.Seq.{take-all}
 use Rattle.service.specs.declared.Service.{Service}
 use Rattle.segments.specs.SegmentList.{startsOf}
 use Rattle.values.specs.forms.Values.{amountOf}
 use Rattle.lent.specs.Over.{over}
-use Rattle.listing.specs.Listing.{rowsAfter, startsAfter, totalsAfter}
-use Rattle.listing.specs.laws.ListingLaws.{rows-room, starts-room, totals-room, starts-low}
+use Rattle.lent.specs.Lists.{Lists, lists}
+use Rattle.listing.specs.Listing.{low16, low32, listsAfter}
+use Rattle.listing.specs.laws.ListingLaws.{room, rows-low, starts-low}
 use Rattle.chart.specs.Chart.{Placement}
+use Rattle.chart.specs.Table.{Table}
 use Rattle.chart.specs.Tags.{tagsOf}
 use Rattle.chart.specs.laws.TagsLaws.{same-count}
 use Rattle.chart.specs.Paymul.{PAYMUL, chart}
@@ -19,8 +21,13 @@ use Rattle.chart.specs.forms.Rows.{nextRow, rowsOf}
 use Rattle.chart.proofs.Guide.{rows-length}
 use Rattle.message.specs.Segs.{segsFrom, segsOf, those, LIN, MOA5, is}
 use Rattle.message.specs.Rules.{count, worth, amount, totalsOf}
-use Rattle.report.specs.laws.CountLaws.{segs-times}
+use Rattle.report.specs.Reported.{filled}
+use Rattle.report.specs.laws.CountLaws.{rows-many, segs-times}
 use Rattle.report.specs.laws.TotalLaws.{own-moas}
+
+-- the table is PAYMUL's
+pub lists-paymul : (t : Table) → t ≡ PAYMUL → (v : Service) (m : List ℕ) (n k : ℕ) (x x′ : Lists) → x′ ≡ listsAfter t v m n k x → x′ ≡ listsAfter PAYMUL v m n k x
+lists-paymul t e v m n k x x′ h = h ∙ ap (λ (u : Table). listsAfter u v m n k x) e
 
 segs-length : (v : Service) (m : List ℕ) (n : ℕ) (rs is : List ℕ) → length rs ≡ length is → length (segsFrom v m n rs is) ≡ length rs
 unfolding segsFrom
@@ -38,15 +45,6 @@ module _ (v : Service) (m : List ℕ) where
   pub placed-length : length (segsOf v m (rowsOf (tagsOf v m))) ≡ length (tagsOf v m)
   placed-length = segs-length v m 1 (rowsOf (tagsOf v m)) (startsOf v m) rows-starts ∙ rows-are
 
-  module _ (n : ℕ) (r s : List ℕ) (e : n ≡ length (tagsOf v m)) (a : n ≤ length r) (b : n ≤ length s) where
-    pub rows-over : rowsAfter PAYMUL v m n r s ≡ over (rowsOf (tagsOf v m)) r
-    rows-over = let z = rows-are in rows-room PAYMUL v m n r s a b ∙ ap (λ (l : List ℕ). over l r) (take-all n (rowsOf (tagsOf v m)) (omega arith))
-
-    pub starts-over : length m ≤ 1048576 → startsAfter v m n r s ≡ over (startsOf v m) s
-    starts-over h =
-        let z = same-count v m 0 in
-        starts-room v m n r s a b ∙ ap (λ (l : List ℕ). over (take n l) s) (starts-low v m h) ∙ ap (λ (l : List ℕ). over l s) (take-all n (startsOf v m) (omega arith))
-
   -- as many totals as orders
   pub totals-count : Placement chart (tagsOf v m) (rowsOf (tagsOf v m)) → length (totalsOf (segsOf v m (rowsOf (tagsOf v m)))) ≡ count (is LIN) (segsOf v m (rowsOf (tagsOf v m)))
   totals-count p =
@@ -55,8 +53,33 @@ module _ (v : Service) (m : List ℕ) where
       ∙ own-moas (tagsOf v m) (rowsOf (tagsOf v m)) p
       ∙ sym (segs-times 17 v m 1 (rowsOf (tagsOf v m)) (startsOf v m) rows-starts)
 
-  pub totals-over : (n : ℕ) (t : List ℕ) → Placement chart (tagsOf v m) (rowsOf (tagsOf v m)) → n ≡ count (is LIN) (segsOf v m (rowsOf (tagsOf v m))) → n ≤ length t
-      → totalsAfter PAYMUL v m n t ≡ over (totalsOf (segsOf v m (rowsOf (tagsOf v m)))) t
-  totals-over n t p e h =
-      let z = totals-count p in
-      totals-room PAYMUL v m n t h ∙ ap (λ (l : List ℕ). over l t) (take-all n (totalsOf (segsOf v m (rowsOf (tagsOf v m)))) (omega arith))
+  module _ (n k : ℕ) (x : Lists) (e : n ≡ length (tagsOf v m)) (a : n ≤ length (x .rows)) (b : n ≤ length (x .starts)) (c : k ≤ length (x .totals)) where
+    rows-over : over (take n (map low16 (rowsOf (tagsOf v m)))) (x .rows) ≡ over (rowsOf (tagsOf v m)) (x .rows)
+    rows-over =
+        let y = rows-many in
+        let z = rows-are in
+        ap (λ (l : List ℕ). over (take n l) (x .rows)) (rows-low PAYMUL (omega arith) 0 (tagsOf v m))
+        ∙ ap (λ (l : List ℕ). over l (x .rows)) (take-all n (rowsOf (tagsOf v m)) (omega arith))
+
+    starts-over : length m ≤ 1048576 → over (take n (map low32 (startsOf v m))) (x .starts) ≡ over (startsOf v m) (x .starts)
+    starts-over h =
+        let z = same-count v m 0 in
+        ap (λ (l : List ℕ). over (take n l) (x .starts)) (starts-low v m h)
+        ∙ ap (λ (l : List ℕ). over l (x .starts)) (take-all n (startsOf v m) (omega arith))
+
+    totals-over : Placement chart (tagsOf v m) (rowsOf (tagsOf v m)) → k ≡ count (is LIN) (segsOf v m (rowsOf (tagsOf v m)))
+        → over (take k (totalsOf (segsOf v m (take n (rowsOf (tagsOf v m)))))) (x .totals) ≡ over (totalsOf (segsOf v m (rowsOf (tagsOf v m)))) (x .totals)
+    totals-over p f =
+        let y = rows-are in
+        let z = totals-count p in
+        ap (λ (l : List ℕ). over (take k (totalsOf (segsOf v m l))) (x .totals)) (take-all n (rowsOf (tagsOf v m)) (omega arith))
+        ∙ ap (λ (l : List ℕ). over l (x .totals)) (take-all k (totalsOf (segsOf v m (rowsOf (tagsOf v m)))) (omega arith))
+
+    -- all segments and all orders are listed
+    pub lists-over : length m ≤ 1048576 → Placement chart (tagsOf v m) (rowsOf (tagsOf v m)) → k ≡ count (is LIN) (segsOf v m (rowsOf (tagsOf v m)))
+        → listsAfter PAYMUL v m n k x ≡ filled v m (rowsOf (tagsOf v m)) x
+    lists-over h p f =
+        let r = rows-over in
+        let s = starts-over h in
+        let t = totals-over p f in
+        room PAYMUL v m n k x a b c ∙ (λ i. lists (r i) (s i) (t i))

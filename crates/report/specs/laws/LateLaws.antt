@@ -1,10 +1,10 @@
 -- A placed message to which no early fault applies: what `judge` gives is the lowest fault that applies, and none is given exactly if none applies. Assumes nothing.
 use Prim.Native.Nat.{ℕ, suc, _+_, _≤_, _<_}
-use mathlib.Core.Path.{_≡_, refl, sym, _∙_, subst}
+use mathlib.Core.Path.{_≡_, refl, sym, subst}
 use mathlib.Core.Logic.{_⊎_, inl, inr}
 use mathlib.Core.List.{List, [], _∷_}
 use native.Mathlib.Omega.{arith}
-use lib.ListN.{take, drop, take-append-drop}
+use lib.ListN.{drop, take-append-drop}
 use Rattle.service.specs.declared.Service.{Service}
 use Rattle.faults.specs.declared.Fault.the-variants as fault
 use Rattle.chart.specs.Chart.{Placement, Reading, FirstMisfit}
@@ -14,7 +14,7 @@ use Rattle.chart.proofs.Theorems.{one-reading, one-misfit}
 use Rattle.message.specs.Segs.{segsOf}
 use Rattle.message.specs.Rules.{paymul}
 use Rattle.message.specs.Faults.{rank, Told, told, tellAll, least, leastOf}
-use Rattle.report.specs.Reported.{bareOf, Room, early, In, here, there, Applies, soon, misfit, late, Lowest}
+use Rattle.report.specs.Reported.{bareOf, Room, early, In, Applies, soon, misfit, late, Lowest}
 use Rattle.report.specs.laws.LeastLaws.{NotAfter, nowhere, least-in, least-first}
 
 -- a number has one rank

@@ -3,7 +3,7 @@ use Prim.Native.Nat.{ℕ, _<_}
 use native.Mathlib.Omega.{arith}
 use mathlib.Core.Path.{_≡_, refl, sym, _∙_}
 use mathlib.Core.List.{List, [], _∷_, map}
-use mathlib.Core.Bool.{Bool, true, false}
+use mathlib.Core.Bool.{false}
 use lib.ListN.{length, drop}
 use Rattle.service.specs.declared.Service.{Service}
 use Rattle.segments.specs.SegmentList.{Piece, startOf, segmentsFrom, startsFrom, startAt}
@@ -15,7 +15,7 @@ use Rattle.values.specs.Numbers.{valueIn}
 use Rattle.values.specs.forms.Values.{codeFrom, codeOf}
 use Rattle.tally.specs.Places.{passed}
 use Rattle.tally.specs.laws.PlacesLaws.{passed-start}
-use Rattle.chart.specs.forms.Codes.{LIN}
+use Rattle.values.specs.forms.Codes.{LIN}
 use Rattle.chart.specs.Tags.{tagOn, tagsFrom, tagsOf}
 use Rattle.chart.specs.laws.TagsLaws.{same-count}
 use Rattle.values.specs.Text.{text, says}

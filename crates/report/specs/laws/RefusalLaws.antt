@@ -10,7 +10,6 @@ use borrow.Author.Tests.{eq-eqb, ne-eqb, leb-false}
 use Rattle.service.specs.declared.Service.{Service}
 use Rattle.service.specs.Service.{Fits, fitting}
 use Rattle.service.specs.Tests.{isEmpty}
-use Rattle.segments.specs.declared.Segment.{Segment}
 use Rattle.segments.specs.declared.Segment.the-variants.{Finished, Unfinished}
 use Rattle.segments.specs.forms.Segments.{segmentAt}
 use Rattle.segments.specs.laws.SegmentsLaws.{Lies}

@@ -1,7 +1,6 @@
 -- Every place that a rule tells is the number of a segment. Assumes nothing.
-use Prim.Native.Nat.{ℕ, zero, suc, _+_, _≤_, _<_}
+use Prim.Native.Nat.{ℕ, suc, _+_, _≤_}
 use native.Mathlib.Omega.{arith}
-use mathlib.Core.Path.{_≡_, refl, sym, ap, _∙_, subst}
 use mathlib.Core.List.{List, [], _∷_, _++_}
 use mathlib.Core.Bool.{Bool, true, false, not, _&&_, _||_}
 use lib.Dec.{eqb}
@@ -11,7 +10,7 @@ use Rattle.service.specs.Tests.{if}
 use Rattle.values.specs.Text.{sameList, says}
 use Rattle.values.specs.forms.Values.{amountOf}
 use Rattle.segments.specs.SegmentList.{startsOf}
-use Rattle.message.specs.Segs.{Seg, Stretch, segAt, segsFrom, segsOf, those, until, stretches, each, LIN, MOA5, CUX5, FII6, NAD7, PRC10, SEQ, MOA11, FII12, NAD13, PRC16, FTX16, DOC17, CNT, UNT, is, orders, payments, details}
+use Rattle.message.specs.Segs.{Seg, Stretch, segsFrom, segsOf, those, until, stretches, each, LIN, MOA5, CUX5, FII6, NAD7, PRC10, SEQ, MOA11, FII12, NAD13, PRC16, FTX16, DOC17, CNT, UNT, is, orders, payments, details}
 use Rattle.message.specs.Rules.{writes, capitals, isOf, worth, count, some, reference, qualifier, amount, currency, cuxHolds, sum, named, party, orderHolds, paymentHolds, detailsHold, fault21, fault23, fault24, fault25, fault26, fault27B, fault27C, fault28B, fault28C, unless, failing, misnumbered, rule17, rule18, rule20, rule21, rule22, rule23, rule24, rule25, rule26, rule27, rule28, rule29, paymul}
 use Rattle.message.specs.Faults.{told, tellAll}
 use Rattle.report.specs.Reported.{In}

@@ -1,20 +1,18 @@
 -- Number 10, of fit characters: the tally's first bad byte is a value byte, stands in the first segment where the rule is told, and is the first such byte in it. Assumes nothing.
 use Prim.Native.Nat.{ℕ, zero, suc, _+_, _-_, _≤_, _<_}
 use native.Mathlib.Omega.{arith}
-use mathlib.Core.Path.{_≡_, refl, sym, ap, _∙_, subst}
-use mathlib.Core.List.{List, [], _∷_, _++_, map}
+use mathlib.Core.Path.{_≡_, refl, ap, _∙_, subst}
+use mathlib.Core.List.{List, [], _∷_, map}
 use mathlib.Core.Bool.{Bool, true, false}
 use lib.ListN.{length, take, drop, getD, length-drop}
 use lib.Seq.{take-all}
-use lib.Dec.{ltb}
 use borrow.Author.Tests.{lt-ltb, le-ltb, le-leb}
 use Rattle.service.specs.declared.Service.{Service}
 use Rattle.service.specs.Service.{Fits}
-use Rattle.segments.specs.declared.Segment.{Segment}
-use Rattle.segments.specs.declared.Segment.the-variants.{Finished, Unfinished, Nothing}
+use Rattle.segments.specs.declared.Segment.the-variants.{Finished, Unfinished}
 use Rattle.segments.specs.forms.Segments.{segmentAt}
 use Rattle.segments.specs.laws.SegmentsLaws.{Lies, finished-end, unfinished-end}
-use Rattle.segments.specs.SegmentList.{Piece, finished, unfinished, segmentsFrom, startsFrom, startAt}
+use Rattle.segments.specs.SegmentList.{finished, unfinished, segmentsFrom, startsFrom, startAt}
 use Rattle.segments.specs.laws.StartsLaws.{by-place}
 use Rattle.parts.specs.Parts.{isStrange, keep, strangeIn}
 use Rattle.parts.specs.Written.{strangePlaces}
@@ -22,7 +20,6 @@ use Rattle.parts.specs.laws.ReleaseLaws.{strange-places, strange-unfinished}
 use Rattle.faults.specs.declared.First.{First}
 use Rattle.faults.specs.declared.First.the-variants as first
 use Rattle.faults.specs.Firsts.{lesser}
-use Rattle.tally.specs.declared.Tally.{Tally}
 use Rattle.tally.specs.Tallied.{firstPlace, badBetween, tallyOf}
 use Rattle.tally.specs.Places.{passed}
 use Rattle.tally.specs.laws.PlacesLaws.{starts}

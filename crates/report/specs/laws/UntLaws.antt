@@ -20,8 +20,8 @@ use Rattle.values.specs.forms.Values.{codeOf}
 use Rattle.faults.specs.declared.First.{First}
 use Rattle.faults.specs.declared.First.the-variants as first
 use Rattle.faults.specs.Firsts.{lesser, placeUnless}
-use Rattle.tally.specs.declared.Tally.{Tally}
-use Rattle.tally.specs.Tallied.{UNT, tallyOf}
+use Rattle.values.specs.forms.Codes.{UNT}
+use Rattle.tally.specs.Tallied.{tallyOf}
 use Rattle.interchange.specs.laws.TagLaws.{unt-code}
 use Rattle.interchange.specs.Messages.{tagAt, closedAt, endsClosed}
 use Rattle.report.specs.forms.Checks.{endsBy, endsWith}

@@ -14,7 +14,8 @@ use Rattle.parts.specs.Trimmed.{Values, valuesAt, valuesIn}
 use Rattle.values.specs.Text.{text}
 use Rattle.interchange.specs.declared.Opening.the-variants.{Opens}
 use Rattle.interchange.specs.Messages.{tagAt, Kind, head, trailer, last, other, cut, kindOf, Extent, isClosed, extentBy, extentOf, messagesBy, messagesOf}
-use Rattle.interchange.specs.Envelope.{openingOf, bodyOf}
+use Rattle.interchange.specs.Envelope.{bodyOf}
+use Rattle.interchange.specs.forms.Answers.{openingOf}
 use Rattle.interchange.specs.Damage.{bytesOf}
 use Rattle.interchange.specs.laws.WalkLaws.{Placed, end, at}
 use Rattle.interchange.specs.laws.TargetLaws.{head-tag}

@@ -18,7 +18,8 @@ use Rattle.parts.specs.Trimmed.{Values, valuesAt, valuesIn, valuesFrom}
 use Rattle.parts.specs.laws.TrimLaws.{trimmed-value, values-trimmed}
 use Rattle.values.specs.Text.{text}
 use Rattle.interchange.specs.declared.Opening.the-variants.{Opens}
-use Rattle.interchange.specs.Envelope.{firstAt, openingOf}
+use Rattle.interchange.specs.Envelope.{firstAt}
+use Rattle.interchange.specs.forms.Answers.{openingOf}
 use Rattle.interchange.specs.laws.OpenedLaws.{opened, opens}
 use Rattle.interchange.specs.Messages.{tagAt}
 use Rattle.interchange.specs.laws.WalkLaws.{Placed, end, at}

@@ -19,7 +19,8 @@ use Rattle.parts.specs.laws.TrimLaws.{same-at, same-trimmed, values-trimmed}
 use Rattle.values.specs.Exactly.{Exactly}
 use Rattle.interchange.specs.declared.Opening.{Opening}
 use Rattle.interchange.specs.declared.Opening.the-variants.{Opens, Refused}
-use Rattle.interchange.specs.Envelope.{refusal, openingOf, afterFirst, lastStart, bodyOf, messageCount, strayCount, closedBy, closingBy, closingOf}
+use Rattle.interchange.specs.Envelope.{refusal, afterFirst, lastStart, bodyOf, messageCount, strayCount}
+use Rattle.interchange.specs.forms.Answers.{openingOf, closedBy, closingBy, closingOf}
 use Rattle.interchange.specs.Alike.{Alike, none, both}
 use Rattle.interchange.specs.laws.AlikeLaws.{same-count, same-strays, same-last, same-end, same-number}
 use Rattle.rewrite.specs.declared.Rewriting.{Rewriting}

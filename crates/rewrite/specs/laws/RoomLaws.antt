@@ -14,7 +14,10 @@ use Rattle.parts.specs.Trimmed.{valuesFrom}
 use Rattle.interchange.specs.declared.Refusal.{Refusal}
 use Rattle.interchange.specs.declared.Opening.{Opening}
 use Rattle.interchange.specs.declared.Opening.the-variants as opening
-use Rattle.interchange.specs.Envelope.{refusal, openingOf}
+use Rattle.interchange.specs.Envelope.{refusal}
+use Rattle.interchange.specs.Opened.{OpenedAs}
+use Rattle.interchange.specs.forms.Answers.{openingOf}
+use Rattle.interchange.specs.laws.OpenedLaws.{opening-is}
 use Rattle.lent.specs.Over.{over}
 use Rattle.rewrite.specs.declared.Rewriting.{Rewriting}
 use Rattle.rewrite.specs.declared.Rewriting.the-variants.{Written, Refused}
@@ -36,24 +39,24 @@ unfolding fits
 fits-within n room e = leb-true n room (and-right (leb n 1048576) (leb n room) (sym e))
 
 -- ---- opening refused
-module _ (s : List ℕ) (o : Opening) (q : o ≡ openingOf s) (f : Refusal) (e : o ≡ opening.Refused f) where
+module _ (s : List ℕ) (o : Opening) (q : OpenedAs s o) (f : Refusal) (e : o ≡ opening.Refused f) where
   pub refused-answer : (room : ℕ) → Refused f ≡ rewritingOf s room
   unfolding rewritingOf
-  refused-answer room = rw (← q, e)
+  refused-answer room = rw (← opening-is s o q, e)
 
   pub refused-room : (old : List ℕ) → old ≡ roomAfter s old
   unfolding roomAfter rewritingOf
-  refused-room old = rw (← q, e)
+  refused-room old = rw (← opening-is s o q, e)
 
 -- ---- opened
-module _ (s : List ℕ) (o : Opening) (q : o ≡ openingOf s) (v : Service) (first : ℕ) (e : o ≡ opening.Opens v first) where
+module _ (s : List ℕ) (o : Opening) (q : OpenedAs s o) (v : Service) (first : ℕ) (e : o ≡ opening.Opens v first) where
   pub rewritten-is : rewritten s ≡ plain (valuesFrom v s first)
   unfolding rewritten valuesOf
-  rewritten-is = rw (← q, e)
+  rewritten-is = rw (← opening-is s o q, e)
 
   answer-is : (room : ℕ) → rewritingOf s room ≡ fitting (length (plain (valuesFrom v s first))) room
   unfolding rewritingOf
-  answer-is room = ap (λ (k : Opening). rewritingBy k (length (rewritten s)) room) (sym q ∙ e) ∙ ap (λ (l : List ℕ). fitting (length l) room) rewritten-is
+  answer-is room = ap (λ (k : Opening). rewritingBy k (length (rewritten s)) room) (sym (opening-is s o q) ∙ e) ∙ ap (λ (l : List ℕ). fitting (length l) room) rewritten-is
 
   module _ (n : ℕ) (c : n ≡ length (plain (valuesFrom v s first))) (old : List ℕ) (t : Bool) (y : t ≡ fits n (length old)) where
     pub long-answer : t ≡ false → (f : Refusal) → f ≡ refusal 9 → Refused f ≡ rewritingOf s (length old)

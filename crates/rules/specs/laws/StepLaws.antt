@@ -14,8 +14,7 @@ use Rattle.faults.specs.Firsts.{numberFirst}
 use Rattle.chart.specs.declared.Cursor.{Cursor}
 use Rattle.chart.specs.forms.Cursor.{CursorIs, Stepped}
 use Rattle.chart.specs.Table.{Table}
-use Rattle.chart.specs.Paymul.{PAYMUL}
-use Rattle.chart.specs.Tags.{tagsFrom, tagsOf}
+use Rattle.chart.specs.Tags.{tagsFrom}
 use Rattle.segments.specs.SegmentList.{startsFrom}
 use Rattle.chart.specs.forms.Next.{nextRow}
 use Rattle.segments.specs.declared.Segment.{Segment}
@@ -30,8 +29,8 @@ use Rattle.segments.specs.laws.StartsLaws.{starts-finished, starts-unfinished}
 use Rattle.message.specs.Segs.{Seg, segAt, segsFrom}
 use Rattle.message.specs.Rules.{reference, paymulOf}
 use Rattle.message.specs.Faults.{rank, tellAll, leastOf}
-use Rattle.message.specs.forms.Run.{run, firstOf}
-use Rattle.message.specs.laws.FaultLaws.{Rising, byRules, by-rules}
+use Rattle.message.specs.forms.Run.{run}
+use Rattle.message.specs.laws.FaultLaws.{Rising, by-rules}
 use Rattle.message.specs.laws.LoopLaws.{Runs, runs-first, runs-fits, runs-next, runs-end}
 use Rattle.trailer.specs.declared.Trailer.{Trailer}
 use Rattle.trailer.specs.forms.Steps.{trailerStart, trailerStep}
@@ -49,41 +48,34 @@ use Rattle.parties.specs.laws.Agree.{agree27}
 use Rattle.details.specs.declared.Details.{Details}
 use Rattle.details.specs.forms.Steps.{detailsStart, detailsStep, detailsClose}
 use Rattle.details.specs.laws.Agree.{agree28}
-use Rattle.rules.specs.declared.State.{State}
 use Rattle.rules.specs.Placed.{placedOn}
-use Rattle.rules.specs.forms.Steps.{All, none, allStart, stateOf, allStep, trailerFirst, numbersFirst, amountsFirst}
-
-pub start-by : (t : Trailer) (n : Numbering) (a : Amounts) (p : Parties) (d : Details) → t ≡ trailerStart → n ≡ numberingStart → a ≡ sumsStart → p ≡ partiesStart → d ≡ detailsStart → record { trailer = t; numbering = n; amounts = a; parties = p; details = d } ≡ allStart
-start-by t n a p d h0 h1 h2 h3 h4 = rw (h0, h1, h2, h3, h4)
-
-pub step-by : (v : Service) (m : List ℕ) (k o : ℕ) (st : State) (s : Seg) (t : Trailer) (n : Numbering) (a : Amounts) (p : Parties) (d : Details)
-    → t ≡ trailerStep k (valueIn v 0 m 1 0) (st .trailer) s → n ≡ numberingStep o (st .numbering) s → sumsOf v m a ≡ sumsStep (none v m) (sumsOf v m (st .amounts)) s → p ≡ partiesStep (st .parties) s → d ≡ detailsStep (st .details) s
-    → stateOf v m (record { trailer = t; numbering = n; amounts = a; parties = p; details = d }) ≡ allStep v m k o (stateOf v m st) s
-unfolding allStep
-step-by v m k o st s t n a p d h0 h1 h2 h3 h4 =
-    rw (h0, h1, h3, h4) (ap (λ x. record { trailer = trailerStep k (valueIn v 0 m 1 0) (st .trailer) s; numbering = numberingStep o (st .numbering) s; amounts = x; parties = partiesStep (st .parties) s; details = detailsStep (st .details) s }) h2)
+use Rattle.rules.specs.forms.Steps.{All, none, allStart, stateOf, allStep, trailerFirst, numbersFirst, amountsFirst, leastFirst}
 
 -- ---- the loop: nth segments are passed
-pub record Judging (t : Table) (v : Service) (m : List ℕ) (k o : ℕ) (st : State) (row nth : ℕ) (c : Cursor) (at : ℕ) : Type 0 where
-  pub runs : Runs (allStep v m k o) (run (allStep v m k o) (stateOf v m allStart) (placedOn t v m)) t v m nth row c (stateOf v m st)
+pub record Judging (t : Table) (v : Service) (m : List ℕ) (k o : ℕ) (u : Trailer) (n : Numbering) (a : Amounts) (p : Parties) (d : Details) (row nth : ℕ) (c : Cursor) (at : ℕ) : Type 0 where
+  pub runs : Runs (allStep v m k o) (run (allStep v m k o) (allStart v m) (placedOn t v m)) t v m nth row c (stateOf v m u n a p d)
   pub here : at ≡ c .at
 
 module _ (t : Table) (v : Service) (m : List ℕ) (k o : ℕ) where
-  pub judging-first : (st : State) → st ≡ allStart → (c : Cursor) → CursorIs v m 0 c → Judging t v m k o st 0 0 c (c .at)
-  judging-first st e c h = rw e (record { runs = runs-first (allStep v m k o) t v m (stateOf v m allStart) c h; here = refl })
+  pub judging-first : (u : Trailer) (n : Numbering) (a : Amounts) (p : Parties) (d : Details) → u ≡ trailerStart → n ≡ numberingStart → a ≡ sumsStart → p ≡ partiesStart → d ≡ detailsStart → (c : Cursor) → CursorIs v m 0 c → Judging t v m k o u n a p d 0 0 c (c .at)
+  judging-first u n a p d h0 h1 h2 h3 h4 c h = rw (h0, h1, h2, h3, h4) (record { runs = runs-first (allStep v m k o) t v m (allStart v m) c h; here = refl })
 
-  module _ (st : State) (row nth : ℕ) (c : Cursor) (at : ℕ) (j : Judging t v m k o st row nth c at) where
+  module _ (u : Trailer) (n : Numbering) (a : Amounts) (p : Parties) (d : Details) (row nth : ℕ) (c : Cursor) (at : ℕ) (j : Judging t v m k o u n a p d row nth c at) where
     pub judging-fits : at < length m → length m < 2 ^ 64 → Fits w64 (nth + 1)
-    judging-fits h g = let e = j .here in let l : c .at < length m = omega arith in runs-fits (allStep v m k o) t v m _ nth row c (stateOf v m st) (j .runs) l g
+    judging-fits h g = let e = j .here in let l : c .at < length m = omega arith in runs-fits (allStep v m k o) t v m _ nth row c (stateOf v m u n a p d) (j .runs) l g
 
-    pub judging-next : at < length m → (n : ℕ) → n ≡ nth + 1 → (x : ℕ) → x ≡ nextRow t row (c .tag) → (d : Cursor) → Stepped v m c d → (u : State) → stateOf v m u ≡ allStep v m k o (stateOf v m st) (segAt v m n x at) → Judging t v m k o u x n d (d .at)
-    judging-next h n q x e d s u p =
-        let w = j .here in
+    pub judging-next : at < length m → (w : ℕ) → w ≡ nth + 1 → (x : ℕ) → x ≡ nextRow t row (c .tag) → (e : Cursor) → Stepped v m c e → (u′ : Trailer) (n′ : Numbering) (a′ : Amounts) (p′ : Parties) (d′ : Details)
+        → u′ ≡ trailerStep k (valueIn v 0 m 1 0) u (segAt v m w x at) → n′ ≡ numberingStep o n (segAt v m w x at) → sumsOf v m a′ ≡ sumsStep (none v m) (sumsOf v m a) (segAt v m w x at) → p′ ≡ partiesStep p (segAt v m w x at) → d′ ≡ detailsStep d (segAt v m w x at)
+        → Judging t v m k o u′ n′ a′ p′ d′ x w e (e .at)
+    unfolding allStep
+    judging-next h w q x f e s u′ n′ a′ p′ d′ h0 h1 h2 h3 h4 =
+        let g = j .here in
         let l : c .at < length m = omega arith in
-        record { runs = runs-next (allStep v m k o) t v m _ nth row c (stateOf v m st) (j .runs) l n q x e d s (stateOf v m u) (p ∙ rw w); here = refl }
+        let b : stateOf v m u′ n′ a′ p′ d′ ≡ allStep v m k o (stateOf v m u n a p d) (segAt v m w x at) = λ i. record { trailer = h0 i; numbering = h1 i; amounts = h2 i; parties = h3 i; details = h4 i } in
+        record { runs = runs-next (allStep v m k o) t v m _ nth row c (stateOf v m u n a p d) (j .runs) l w q x f e s (stateOf v m u′ n′ a′ p′ d′) (b ∙ rw g); here = refl }
 
-    pub judging-end : length m ≤ at → stateOf v m st ≡ run (allStep v m k o) (stateOf v m allStart) (placedOn t v m)
-    judging-end h = let w = j .here in let l : length m ≤ c .at = omega arith in runs-end (allStep v m k o) t v m _ nth row c (stateOf v m st) (j .runs) l
+    pub judging-end : length m ≤ at → stateOf v m u n a p d ≡ run (allStep v m k o) (allStart v m) (placedOn t v m)
+    judging-end h = let w = j .here in let l : length m ≤ c .at = omega arith in runs-end (allStep v m k o) t v m _ nth row c (stateOf v m u n a p d) (j .runs) l
 
 -- ---- the run of all is each rule's run
 parts : (v : Service) (m : List ℕ) (k n : ℕ) (st : All) (ss : List Seg)
@@ -97,6 +89,10 @@ parts v m k n st (s ∷ ss) = parts v m k n (allStep v m k n st s) ss
 rising : (k n : ℕ) (m : List Seg) → Rising 0 (paymulOf k n m)
 unfolding rank
 rising k n m = omega arith
+
+pub least-by : (t : Trailer) (n : Numbering) (a : Amounts) (f g : First) (g29 g28 g27 g22 g20 r : Fault) → g29 ≡ numberFirst 29 (n .first29) fault.None → g28 ≡ numberFirst 28 g g29 → g27 ≡ numberFirst 27 f g28
+    → g22 ≡ amountsFirst a g27 → g20 ≡ numbersFirst n g22 → r ≡ trailerFirst t g20 → r ≡ leastFirst t n a f g
+least-by t n a f g g29 g28 g27 g22 g20 r h1 h2 h3 h4 h5 h6 = rw (h6, h5, h4, h3, h2, h1)
 
 pub trailer-by : (t : Trailer) (o b c : Fault) → b ≡ numberFirst 18 (t .first18) o → c ≡ numberFirst 17 (t .first17) b → c ≡ trailerFirst t o
 trailer-by t o b c h1 h2 = rw (h2, h1)
@@ -119,36 +115,39 @@ first-starts t v m n prev (Finished f j) e = rw (tags-finished v m 0 (Finished f
 first-starts t v m n prev Unfinished e = rw (tags-unfinished v m 0 Unfinished e refl, starts-unfinished v m 0 Unfinished e refl)
 first-starts t v m n prev Nothing e = none-here t v m n prev (λ h. something v m 0 h (sym e))
 
-module _ (t : Table) (v : Service) (m : List ℕ) (k o : ℕ) (st : State) (q : stateOf v m st ≡ run (allStep v m k o) (stateOf v m allStart) (placedOn t v m)) where
+module _ (t : Table) (v : Service) (m : List ℕ) (k o : ℕ) (u : Trailer) (n : Numbering) (a : Amounts) (p : Parties) (d : Details) (q : stateOf v m u n a p d ≡ run (allStep v m k o) (allStart v m) (placedOn t v m)) where
   abbrev segs : List Seg
   segs = placedOn t v m
 
-  all : stateOf v m st ≡ record { trailer = run (trailerStep k (valueIn v 0 m 1 0)) trailerStart segs; numbering = run (numberingStep o) numberingStart segs; amounts = run (sumsStep (none v m)) (sumsOf v m sumsStart) segs; parties = run partiesStep partiesStart segs; details = run detailsStep detailsStart segs }
-  all = q ∙ parts v m k o (stateOf v m allStart) segs
+  all : stateOf v m u n a p d ≡ record { trailer = run (trailerStep k (valueIn v 0 m 1 0)) trailerStart segs; numbering = run (numberingStep o) numberingStart segs; amounts = run (sumsStep (none v m)) (sumsOf v m sumsStart) segs; parties = run partiesStep partiesStart segs; details = run detailsStep detailsStart segs }
+  all = q ∙ parts v m k o (allStart v m) segs
 
-  is-trailer : st .trailer ≡ run (trailerStep k (valueIn v 0 m 1 0)) trailerStart segs
+  is-trailer : u ≡ run (trailerStep k (valueIn v 0 m 1 0)) trailerStart segs
   is-trailer = ap (λ (x : All). x .trailer) all
 
-  is-numbering : st .numbering ≡ run (numberingStep o) numberingStart segs
+  is-numbering : n ≡ run (numberingStep o) numberingStart segs
   is-numbering = ap (λ (x : All). x .numbering) all
 
-  is-parties : st .parties ≡ run partiesStep partiesStart segs
+  is-parties : p ≡ run partiesStep partiesStart segs
   is-parties = ap (λ (x : All). x .parties) all
 
-  is-details : st .details ≡ run detailsStep detailsStart segs
+  is-details : d ≡ run detailsStep detailsStart segs
   is-details = ap (λ (x : All). x .details) all
 
-  is-amounts : sumsOf v m (st .amounts) ≡ run (sumsStep (none v m)) (sumsOf v m sumsStart) segs
+  is-amounts : sumsOf v m a ≡ run (sumsStep (none v m)) (sumsOf v m sumsStart) segs
   is-amounts = ap (λ (x : All). x .amounts) all
 
-  module _ (a : Amounts) (h : a ≡ amountsClose v m (st .amounts)) where
-    closed : sumsOf v m a ≡ sumsClose v m (run (sumsStep (none v m)) (sumsOf v m sumsStart) segs)
-    closed = close-sums v m (st .amounts) a h ∙ ap (sumsClose v m) is-amounts
+  module _ (b : Amounts) (h : b ≡ amountsClose v m a) where
+    closed : sumsOf v m b ≡ sumsClose v m (run (sumsStep (none v m)) (sumsOf v m sumsStart) segs)
+    closed = close-sums v m a b h ∙ ap (sumsClose v m) is-amounts
 
     -- the first rule with a place is the least of all that is told
-    judged-by : trailerFirst (st .trailer) (numbersFirst (st .numbering) (amountsFirst a (numberFirst 27 (partiesClose (st .parties)) (numberFirst 28 (detailsClose (st .details)) (numberFirst 29 (st .numbering .first29) fault.None))))) ≡ leastOf (tellAll (paymulOf k o segs))
-    judged-by =
+    pub judged : (f g : First) → f ≡ partiesClose p → g ≡ detailsClose d → (r : Fault) → r ≡ leastFirst u n b f g → r ≡ leastOf (tellAll (paymulOf k o (placedOn t v m)))
+    judged f g e i r j =
         rw (
+          j,
+          e,
+          i,
           ap (λ (x : Sums). x .first22) closed ∙ agree22 (none v m) (heldOf v m noOrder) segs,
           ap (λ (x : Sums). x .first23) closed ∙ agree23 (none v m) (heldOf v m noOrder) segs,
           ap (λ (x : Sums). x .first24) closed ∙ agree24 (none v m) (heldOf v m noOrder) segs,
@@ -167,11 +166,3 @@ module _ (t : Table) (v : Service) (m : List ℕ) (k o : ℕ) (st : State) (q : 
           agree28 segs,
         )
         (sym (by-rules 0 (paymulOf k o segs) (rising k o segs)))
-
-    pub judged : (p d : First) (g29 g28 g27 g22 g20 r : Fault) → p ≡ partiesClose (st .parties) → d ≡ detailsClose (st .details) → g29 ≡ numberFirst 29 (st .numbering .first29) fault.None → g28 ≡ numberFirst 28 d g29 → g27 ≡ numberFirst 27 p g28
-        → g22 ≡ amountsFirst a g27 → g20 ≡ numbersFirst (st .numbering) g22 → r ≡ trailerFirst (st .trailer) g20 → r ≡ leastOf (tellAll (paymulOf k o (placedOn t v m)))
-    judged p d g29 g28 g27 g22 g20 r h1 h2 h3 h4 h5 h6 h7 h8 = rw (h8, h7, h6, h5, h4, h3, h1, h2) judged-by
-
--- the table is PAYMUL's
-pub judged-paymul : (t : Table) → t ≡ PAYMUL → (v : Service) (m : List ℕ) (k o : ℕ) (r : Fault) → r ≡ leastOf (tellAll (paymulOf k o (placedOn t v m))) → r ≡ leastOf (tellAll (paymulOf k o (placedOn PAYMUL v m)))
-judged-paymul t e v m k o r h = h ∙ ap (λ (u : Table). leastOf (tellAll (paymulOf k o (placedOn u v m)))) e

@@ -1,75 +1,33 @@
--- `segments::segment_end` meets its contract. The invariant: what is found from `at` is what is found from `i`. Assumes nothing.
-use Prim.Native.Nat.{_-_}
-use mathlib.Core.Path.{_≡_}
-use mathlib.Core.Bool.{false}
+-- `segments::segment_end` meets its contract: the first terminator ends the segment, if no release stands before it. Assumes nothing.
+use Rattle.segments.specs.laws.FindLaws.{end-nowhere, end-first}
 use borrow.Author.Needs.{needs}
-use lib.ListN.{length, drop}
-use Rattle.segments.specs.forms.Bytes.{endFrom}
-use Rattle.segments.specs.laws.BytesLaws.{end-none, end-term, end-rel, end-on}
 use Rattle.segments.proofs.segment_end.Statement.{statement}
 use Rattle.segments.proofs.segment_end.Tie as tie
 use Rattle.segments.proofs.segment_end.Reads as reads
 use Rattle.segments.proofs.segment_end.Lts as lts
-use Rattle.segments.proofs.pass_fours.Reads as pass-fours-reads
-use Rattle.segments.proofs.release_of.Reads as release-of-reads
+use Rattle.segments.proofs.find.Reads as find-reads
+use Rattle.segments.proofs.follows_release.Reads as follows-release-reads
+use Rattle.segments.proofs.slow_end.Reads as slow-end-reads
 
-abbrev Inv-loop : tie.InvT-loop
-Inv-loop s at v release i₀ i = endFrom v false at (drop at s) ≡ endFrom v false i (drop i s)
+find-requires : tie.Need-find-requires
+find-requires c κs = search needs
 
-abbrev μ-loop : tie.MeasureT-loop
-μ-loop s at v release i₀ i = length s - i
+follows-release-requires : tie.Need-follows-release-requires
+follows-release-requires c κs = search needs
 
-release-of-requires : tie.Need-release-of-requires Inv-loop μ-loop
-release-of-requires c κs = search (end-none, end-term, end-rel, end-on, needs)
+slow-end-requires : tie.Need-slow-end-requires
+slow-end-requires c κs = search needs
 
-pass-fours-requires : tie.Need-pass-fours-requires Inv-loop μ-loop
-pass-fours-requires c κs = search (end-none, end-term, end-rel, end-on, needs)
+returns : tie.Need-returns
+returns c = search needs
 
-loop-holds : tie.Need-loop-holds Inv-loop μ-loop
-loop-holds c = search (end-none, end-term, end-rel, end-on, needs)
+returns-2 : tie.Need-returns-2
+returns-2 c = search (end-nowhere, end-first, needs)
 
-shared-slice-read-b : tie.Need-shared-slice-read-b Inv-loop μ-loop
-shared-slice-read-b c = search (end-none, end-term, end-rel, end-on, needs)
-
-returns : tie.Need-returns Inv-loop μ-loop
-returns c = search (end-none, end-term, end-rel, end-on, needs)
-
-add-i : tie.Need-add-i Inv-loop μ-loop
-add-i c = search (end-none, end-term, end-rel, end-on, needs)
-
-loop-less : tie.Need-loop-less Inv-loop μ-loop
-loop-less c = search (end-none, end-term, end-rel, end-on, needs)
-
-loop-again : tie.Need-loop-again Inv-loop μ-loop
-loop-again c = search (end-none, end-term, end-rel, end-on, needs)
-
-add-i-2 : tie.Need-add-i-2 Inv-loop μ-loop
-add-i-2 c = search (end-none, end-term, end-rel, end-on, needs)
-
-loop-less-2 : tie.Need-loop-less-2 Inv-loop μ-loop
-loop-less-2 c = search (end-none, end-term, end-rel, end-on, needs)
-
-loop-again-2 : tie.Need-loop-again-2 Inv-loop μ-loop
-loop-again-2 c = search (end-none, end-term, end-rel, end-on, needs)
-
-returns-2 : tie.Need-returns-2 Inv-loop μ-loop
-returns-2 c = search (end-none, end-term, end-rel, end-on, needs)
+returns-3 : tie.Need-returns-3
+returns-3 c = search (end-nowhere, end-first, needs)
 
 pub segment-end-spec : {M : Type 1} → statement M
 segment-end-spec =
     tie.close
-    (tie.spec
-    Inv-loop
-    μ-loop
-    release-of-requires
-    pass-fours-requires
-    loop-holds
-    shared-slice-read-b
-    returns
-    add-i
-    loop-less
-    loop-again
-    add-i-2
-    loop-less-2
-    loop-again-2
-    returns-2)
+    (tie.spec find-requires follows-release-requires slow-end-requires returns returns-2 returns-3)

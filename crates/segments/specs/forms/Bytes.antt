@@ -1,8 +1,9 @@
 -- Where a segment ends and where breaks end, as the loops find them.
-use Prim.Native.Nat.{ℕ, suc}
+use Prim.Native.Nat.{ℕ, suc, _-_}
 use mathlib.Core.List.{List, [], _∷_}
 use mathlib.Core.Bool.{Bool, true, false}
-use lib.Dec.{eqb}
+use lib.Dec.{eqb, ltb}
+use lib.ListN.{getD}
 use Rattle.service.specs.declared.Service.{Service}
 use Rattle.service.specs.Tests.{if}
 use Rattle.segments.specs.declared.Class.{Class}
@@ -30,6 +31,10 @@ releaseBy Term v = v .terminator
 -- what an unreleased byte, if it is no terminator, equals exactly if it is a release
 unfoldable pub releaseOf : Service → ℕ
 releaseOf v = releaseBy (classOf v (v .release)) v
+
+-- whether the byte before p, at or after i, is the one named as the release
+unfoldable pub followsRelease : Service → ℕ → ℕ → List ℕ → Bool
+followsRelease v i p s = if (ltb i p) (eqb (getD s (p - 1) 0) (v .release)) false
 
 -- the index of the first unreleased terminator of the bytes, the first of which stands at i and is released or not
 unfoldable pub endFrom : Service → Bool → ℕ → List ℕ → End

@@ -4,9 +4,9 @@ use native.Mathlib.Numerals.{add-one}
 use native.Mathlib.Omega.{arith}
 use mathlib.Core.Path.{_≡_, refl, sym, _∙_, ap}
 use mathlib.Core.List.{List, [], _∷_}
-use mathlib.Core.Bool.{Bool, true, false, _||_}
+use mathlib.Core.Bool.{Bool, true, false}
 use lib.Dec.{eqb}
-use borrow.Author.Tests.{eq-eqb, ne-eqb, eqb-true, eqb-false}
+use borrow.Author.Tests.{eq-eqb, ne-eqb, eqb-true, lt-ltb, le-ltb}
 use lib.ListN.{length, getD, drop, drop-of-length-le}
 use lib.Seq.{drop-cons, drop-drop}
 use Rattle.service.specs.declared.Service.{Service}
@@ -16,7 +16,7 @@ use Rattle.segments.specs.declared.Class.the-variants.{Plain, Comp, Elem
 use Rattle.segments.specs.declared.End.{End}
 use Rattle.segments.specs.declared.End.the-variants.{At, None}
 use Rattle.segments.specs.Classes.{classOf}
-use Rattle.segments.specs.forms.Bytes.{endBy, endFrom, releaseBy, releaseOf, pastBreaks}
+use Rattle.segments.specs.forms.Bytes.{endBy, endFrom, releaseBy, releaseOf, followsRelease, pastBreaks}
 
 -- what an unreleased byte is, by the tests in the order of `classOf`
 module _ (v : Service) (b : ℕ) where
@@ -74,11 +74,11 @@ module _ (v : Service) (b : ℕ) where
   rel-by false false false true false q w = absurd (let z : _≡_ {A = ℕ} 0 1 = cc in omega arith)
   rel-by false false false false e q w = absurd (let z : _≡_ {A = ℕ} 0 1 = cc in omega arith)
 
-  term-of : classOf v b ≡ Term → b ≡ v .terminator
+  pub term-of : classOf v b ≡ Term → b ≡ v .terminator
   unfolding classOf
   term-of w = term-by (eqb b (v .terminator)) (eqb b (v .element)) (eqb b (v .component)) (v .releases) (eqb b (v .release)) refl w
 
-  rel-of : classOf v b ≡ Rel → b ≡ v .release
+  pub rel-of : classOf v b ≡ Rel → b ≡ v .release
   unfolding classOf
   rel-of w = rel-by (eqb b (v .terminator)) (eqb b (v .element)) (eqb b (v .component)) (v .releases) (eqb b (v .release)) refl w
 
@@ -104,6 +104,16 @@ module _ (v : Service) (b : ℕ) where
     goes-on n Elem c i x y = refl
     goes-on n Rel c i x y = absurd (n (release-is (sym c)))
     goes-on n Term c i x y = absurd (t (term-of (sym c)))
+
+-- the byte before one
+module _ (v : Service) (i p : ℕ) (s : List ℕ) where
+  pub follows-near : i < p → eqb (getD s (p - 1) 0) (v .release) ≡ followsRelease v i p s
+  unfolding followsRelease
+  follows-near h = simp (lt-ltb _ _ h)
+
+  pub follows-far : p ≤ i → false ≡ followsRelease v i p s
+  unfolding followsRelease
+  follows-far h = simp (le-ltb _ _ h)
 
 -- a byte after a release is passed over, if there is one
 held-by : (v : Service) (i : ℕ) (l : List ℕ) → endFrom v true i l ≡ endFrom v false (suc i) (drop 1 l)
@@ -134,33 +144,6 @@ module _ (x : End) (v : Service) (s : List ℕ) (i : ℕ) (inv : x ≡ endFrom v
 
       pub end-on : (getD s i 0 ≡ r → ⊥) → x ≡ endFrom v false (i + 1) (drop (i + 1) s)
       end-on n = end-by (classOf v (getD s i 0)) refl ∙ goes-on v _ t (λ e. n (e ∙ sym q)) _ refl _ _ _
-
--- four bytes, none of which is the terminator or the release
-or-no : (a b : Bool) → a || b ≡ false → (a ≡ false) × (b ≡ false)
-or-no true b e = absurd (let z : _≡_ {A = ℕ} 0 1 = cc in omega arith)
-or-no false b e = (refl, e)
-
-module _ (x : End) (v : Service) (r : ℕ) (q : r ≡ releaseOf v) (s : List ℕ) where
-  end-next : (i n : ℕ) → i + 1 ≡ n → i < length s → (m : Bool) → m ≡ (eqb (getD s i 0) (v .terminator) || eqb (getD s i 0) r) → m ≡ false
-      → x ≡ endFrom v false i (drop i s) → x ≡ endFrom v false n (drop n s)
-  end-next i n g h m c e inv =
-      let w = or-no _ _ (sym c ∙ e) in
-      end-on x v s i inv h (eqb-false _ _ (w .0)) r q (eqb-false _ _ (w .1)) ∙ ap (λ (k : ℕ). endFrom v false k (drop k s)) g
-
-  pub end-four : (i : ℕ) → x ≡ endFrom v false i (drop i s) → 4 ≤ length s → i ≤ length s - 4
-      → (a b c d : Bool) → a ≡ (eqb (getD s i 0) (v .terminator) || eqb (getD s i 0) r)
-      → b ≡ (eqb (getD s (i + 1) 0) (v .terminator) || eqb (getD s (i + 1) 0) r)
-      → c ≡ (eqb (getD s (i + 2) 0) (v .terminator) || eqb (getD s (i + 2) 0) r)
-      → d ≡ (eqb (getD s (i + 3) 0) (v .terminator) || eqb (getD s (i + 3) 0) r)
-      → ((a || b) || c) || d ≡ false → x ≡ endFrom v false (i + 4) (drop (i + 4) s)
-  end-four i inv f h a b c d pa pb pc pd e =
-      let u = or-no _ _ e in
-      let w = or-no _ _ (u .0) in
-      let y = or-no _ _ (w .0) in
-      end-next (i + 3) (i + 4) (omega arith) (omega arith) d pd (u .1)
-      (end-next (i + 2) (i + 3) (omega arith) (omega arith) c pc (w .1)
-      (end-next (i + 1) (i + 2) (omega arith) (omega arith) b pb (y .1)
-      (end-next i (i + 1) refl (omega arith) a pa (y .0) inv)))
 
 -- breaks
 module _ (x : ℕ) (s : List ℕ) (i : ℕ) (inv : x ≡ pastBreaks i (drop i s)) where

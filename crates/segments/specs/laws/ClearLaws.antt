@@ -7,8 +7,7 @@ use mathlib.Core.List.{List, [], _∷_, _++_}
 use mathlib.Core.Bool.{Bool, true, false}
 use lib.ListN.{length, drop, take, getD, length-drop}
 use lib.Seq.{drop-drop, take-add, getD-drop}
-use lib.Dec.{T, eqb}
-use borrow.Author.Tests.{eqb-true}
+use lib.Dec.{T}
 use Rattle.service.specs.declared.Service.{Service}
 use Rattle.service.specs.Tests.{if}
 use Rattle.segments.specs.declared.Class.{Class}
@@ -16,23 +15,11 @@ use Rattle.segments.specs.declared.Class.the-variants.{Plain, Comp, Elem
 use Rattle.segments.specs.Classes.{classOf, isBreak}
 use Rattle.segments.specs.SegmentList.{Piece, finished, unfinished, Mode, gap, first, inside, held, mode, ended, after, ends, startIn, emit, left, pieces, segmentsAfter, allFinished}
 use Rattle.segments.specs.Sync.{run}
+use Rattle.segments.specs.laws.BytesLaws.{term-of}
 use Rattle.segments.specs.laws.SyncLaws.{modeOf}
 use Rattle.segments.specs.laws.ResyncLaws.{gap-start, run-append}
 
 -- ---- the byte that ends a segment
-class-by : (b : ℕ) (v : Service) (t u x y z : Bool) → eqb b (v .terminator) ≡ t → if t Term (if u Elem (if x Comp (if y (if z Rel Plain) Plain))) ≡ Term → b ≡ v .terminator
-class-by b v true u x y z p e = eqb-true b (v .terminator) p
-class-by b v false true x y z p e = absurd (let w : _≡_ {A = ℕ} 0 1 = cc in omega arith)
-class-by b v false false true y z p e = absurd (let w : _≡_ {A = ℕ} 0 1 = cc in omega arith)
-class-by b v false false false true true p e = absurd (let w : _≡_ {A = ℕ} 0 1 = cc in omega arith)
-class-by b v false false false true false p e = absurd (let w : _≡_ {A = ℕ} 0 1 = cc in omega arith)
-class-by b v false false false false z p e = absurd (let w : _≡_ {A = ℕ} 0 1 = cc in omega arith)
-
--- only the terminator is of its class
-pub is-term : (v : Service) (b : ℕ) → classOf v b ≡ Term → b ≡ v .terminator
-unfolding classOf
-is-term v b e = class-by b v (eqb b (v .terminator)) (eqb b (v .element)) (eqb b (v .component)) (v .releases) (eqb b (v .release)) refl e
-
 ended-term : (k : Class) → ended k ≡ true → k ≡ Term
 ended-term Plain e = absurd (subst T (sym e) tt)
 ended-term Comp e = absurd (subst T (sym e) tt)
@@ -46,12 +33,12 @@ record Ender (v : Service) (m : Mode) (b : ℕ) : Type 0 where
 
 ender-gap : (v : Service) (b : ℕ) (t : Bool) → isBreak b ≡ t → if t false (ended (classOf v b)) ≡ true → Ender v gap b
 ender-gap v b true p e = absurd (subst T (sym e) tt)
-ender-gap v b false p e = let k = ended-term (classOf v b) e in record { gaps = simp (p, k); term = is-term v b k }
+ender-gap v b false p e = let k = ended-term (classOf v b) e in record { gaps = simp (p, k); term = term-of v b k }
 
 ender : (v : Service) (m : Mode) (b : ℕ) → ends v m b ≡ true → Ender v m b
 ender v gap b e = ender-gap v b (isBreak b) refl e
-ender v first b e = let k = ended-term (classOf v b) e in record { gaps = simp k; term = is-term v b k }
-ender v inside b e = let k = ended-term (classOf v b) e in record { gaps = simp k; term = is-term v b k }
+ender v first b e = let k = ended-term (classOf v b) e in record { gaps = simp k; term = term-of v b k }
+ender v inside b e = let k = ended-term (classOf v b) e in record { gaps = simp k; term = term-of v b k }
 ender v held b e = absurd (subst T (sym e) tt)
 
 -- ---- the first segment of some bytes

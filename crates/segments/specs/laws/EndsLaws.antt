@@ -1,5 +1,5 @@
 -- `endFrom` finds the first unreleased terminator, and `pastBreaks` the end of the breaks. Assumes nothing.
-use Prim.Native.Nat.{ℕ, suc, zero, _+_, _-_, _≤_, _<_}
+use Prim.Native.Nat.{ℕ, suc, zero, _+_, _-_, _<_}
 use native.Mathlib.Nat.{add-zero, add-suc, suc-add}
 use native.Mathlib.Omega.{arith}
 use mathlib.Core.Path.{_≡_, refl, sym, _∙_, ap, subst}
@@ -11,7 +11,6 @@ use Rattle.service.specs.declared.Service.{Service}
 use Rattle.service.specs.Tests.{if}
 use Rattle.segments.specs.declared.Class.{Class}
 use Rattle.segments.specs.declared.Class.the-variants.{Plain, Comp, Elem, Rel, Term}
-use Rattle.segments.specs.declared.End.{End}
 use Rattle.segments.specs.declared.End.the-variants.{At, None}
 use Rattle.segments.specs.Classes.{classOf, isBreak}
 use Rattle.segments.specs.forms.Bytes.{endBy, endFrom, pastBreaks}

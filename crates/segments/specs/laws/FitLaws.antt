@@ -1,23 +1,20 @@
 -- What fit service characters are to a reader of segments. Assumes nothing.
-use Prim.Native.Nat.{ℕ, _+_, _≤_, _<_}
+use Prim.Native.Nat.{ℕ, _<_}
 use native.Mathlib.Omega.{arith}
-use mathlib.Core.Path.{_≡_, refl, sym, _∙_, ap}
-use mathlib.Core.Logic.{_⊎_, inl, inr, ⊎-elim}
-use mathlib.Core.List.{List, [], _∷_, _++_, map}
+use mathlib.Core.Path.{_≡_, refl, sym}
+use mathlib.Core.Logic.{_⊎_, inl, ⊎-elim}
+use mathlib.Core.List.{List, [], _∷_, _++_}
 use mathlib.Core.Bool.{Bool, true, false}
-use lib.ListN.{length}
-use lib.Dec.{eqb}
 use borrow.Author.Tests.{ne-eqb}
 use Rattle.service.specs.declared.Service.{Service}
 use Rattle.service.specs.Service.{serves, Fits}
 use Rattle.service.specs.laws.FitLaws.{serves-range}
-use Rattle.segments.specs.declared.Class.{Class}
-use Rattle.segments.specs.declared.Class.the-variants.{Plain, Comp, Elem, Rel, Term}
+use Rattle.segments.specs.declared.Class.the-variants.{Plain, Term}
 use Rattle.segments.specs.Classes.{classOf, isBreak}
 use Rattle.segments.specs.laws.BytesLaws.{class-term, class-plain, class-plain′}
-use Rattle.segments.specs.SegmentList.{Piece, Mode, gap, pieces}
-use Rattle.segments.specs.Sync.{run, shift, relAfter, Sound}
-use Rattle.segments.specs.laws.ResyncLaws.{settles, resync}
+use Rattle.segments.specs.SegmentList.{Mode, gap}
+use Rattle.segments.specs.Sync.{run, relAfter, Sound}
+use Rattle.segments.specs.laws.ResyncLaws.{settles}
 
 module _ (v : Service) (f : Fits v) where
   apart : (b x : ℕ) → (b < 33) ⊎ (126 < b) → serves x ≡ true → b ≡ x → ⊥

@@ -2,9 +2,9 @@
 use Prim.Native.Nat.{ℕ, _+_, _≤_, _<_}
 use native.Mathlib.Decide.{decLt}
 use native.Mathlib.Omega.{arith}
-use mathlib.Core.Path.{_≡_, refl, sym, _∙_, ap}
+use mathlib.Core.Path.{_≡_, refl, _∙_, ap}
 use mathlib.Core.List.{List, [], _∷_}
-use mathlib.Core.Bool.{Bool, true, false}
+use mathlib.Core.Bool.{true, false}
 use lib.ListN.{length, drop}
 use Rattle.service.specs.declared.Service.{Service}
 use Rattle.segments.specs.declared.End.{End}
@@ -12,7 +12,7 @@ use Rattle.segments.specs.declared.End.the-variants.{At, None}
 use Rattle.segments.specs.declared.Segment.{Segment}
 use Rattle.segments.specs.declared.Segment.the-variants.{Finished, Unfinished, Nothing}
 use Rattle.segments.specs.forms.Bytes.{endFrom, pastBreaks}
-use Rattle.segments.specs.SegmentList.{Piece, finished, unfinished, gap, first, emit, pieces, segmentsFrom, segmentsAfter, allFinished}
+use Rattle.segments.specs.SegmentList.{Piece, finished, unfinished, emit, segmentsFrom, segmentsAfter, allFinished}
 use Rattle.segments.specs.laws.ResyncLaws.{gap-start}
 use Rattle.segments.specs.laws.SyncLaws.{rest-skip, rest-at, rest-none, rest-nothing}
 use Rattle.segments.specs.forms.Segments.{segmentBy, segmentAt}

@@ -1,11 +1,11 @@
 -- A segment ends at the same byte in any part of a text that holds it. Assumes nothing.
-use Prim.Native.Nat.{ℕ, suc, zero, _+_, _≤_, _<_}
-use native.Mathlib.Nat.{add-suc, zero-add}
+use Prim.Native.Nat.{ℕ, suc, _+_, _≤_, _<_}
+use native.Mathlib.Nat.{add-suc}
 use native.Mathlib.Omega.{arith}
-use mathlib.Core.Path.{_≡_, refl, sym, _∙_, ap}
+use mathlib.Core.Path.{_≡_, refl, _∙_, ap}
 use mathlib.Core.List.{List, [], _∷_, _++_}
 use mathlib.Core.Bool.{Bool, true, false}
-use lib.ListN.{length, drop, length-drop}
+use lib.ListN.{length, drop}
 use lib.Seq.{drop-append-add, drop-append-le}
 use Rattle.service.specs.declared.Service.{Service}
 use Rattle.segments.specs.declared.Class.{Class}

@@ -6,7 +6,7 @@ use mathlib.Core.Path.{_≡_, refl, sym, _∙_, ap}
 use mathlib.Core.List.{List, [], _∷_}
 use mathlib.Core.Bool.{Bool, true, false}
 use lib.ListN.{length, drop, length-drop}
-use lib.Dec.{eqb, ltb}
+use lib.Dec.{eqb}
 use borrow.Author.Tests.{lt-ltb, le-ltb}
 use mir.Val.{Fits}
 use mir.Syntax.{w64}
@@ -17,7 +17,7 @@ use Rattle.segments.specs.declared.End.the-variants.{At, None}
 use Rattle.segments.specs.declared.Segment.{Segment}
 use Rattle.segments.specs.declared.Segment.the-variants.{Finished, Unfinished, Nothing}
 use Rattle.segments.specs.forms.Bytes.{endFrom, pastBreaks}
-use Rattle.segments.specs.laws.SyncLaws.{Ended, rest-at, skipped}
+use Rattle.segments.specs.laws.SyncLaws.{rest-at, skipped}
 use Rattle.segments.specs.forms.Segments.{segmentBy, segmentAt}
 
 -- ---- the tests in the order of the code

@@ -1,12 +1,12 @@
 -- What the end of a segment and the breaks after it say of the list of segments. Assumes nothing.
-use Prim.Native.Nat.{ℕ, suc, zero, _+_, _-_, _≤_, _<_}
+use Prim.Native.Nat.{ℕ, suc, _+_, _-_, _≤_, _<_}
 use native.Mathlib.Numerals.{add-one}
 use native.Mathlib.Nat.{add-zero}
 use native.Mathlib.Omega.{arith}
 use mathlib.Core.Path.{_≡_, refl, sym, _∙_, ap, subst}
 use mathlib.Core.List.{List, [], _∷_}
 use mathlib.Core.Bool.{Bool, true, false}
-use lib.ListN.{length, getD, drop, length-drop, drop-of-length-le}
+use lib.ListN.{length, drop, length-drop, drop-of-length-le}
 use lib.Seq.{drop-drop}
 use lib.Dec.{eqb}
 use Rattle.service.specs.declared.Service.{Service}
@@ -17,7 +17,7 @@ use Rattle.segments.specs.declared.End.{End}
 use Rattle.segments.specs.declared.End.the-variants.{At, None}
 use Rattle.segments.specs.Classes.{classOf, isBreak}
 use Rattle.segments.specs.forms.Bytes.{endBy, endFrom, pastBreaks}
-use Rattle.segments.specs.SegmentList.{Piece, finished, unfinished, Mode, gap, first, inside, held, mode, ended, after, ends, startIn, emit, left, pieces, segmentsFrom}
+use Rattle.segments.specs.SegmentList.{Piece, finished, unfinished, Mode, gap, first, inside, held, emit, left, pieces, segmentsFrom}
 use Rattle.segments.specs.laws.ResyncLaws.{gap-start}
 
 abbrev pub modeOf : Bool → Mode

@@ -1,17 +1,16 @@
 -- The service characters that are answered are fit. Assumes nothing.
-use Prim.Native.Nat.{ℕ, _≤_, _<_}
+use Prim.Native.Nat.{ℕ, _≤_}
 use native.Mathlib.Omega.{arith}
-use mathlib.Core.Path.{_≡_, refl, sym, _∙_, ap, subst}
+use mathlib.Core.Path.{_≡_, refl, sym, subst}
 use mathlib.Core.Logic.{_⊎_, inl, inr}
 use mathlib.Core.List.{List, [], _∷_}
 use mathlib.Core.Bool.{Bool, true, false, not, _&&_, _||_}
-use lib.ListN.{length, getD}
+use lib.ListN.{length}
 use lib.Dec.{T, eqb, leb}
 use borrow.Author.Tests.{leb-true}
 use Rattle.service.specs.declared.Service.{Service}
-use Rattle.service.specs.declared.Characters.{Characters}
 use Rattle.service.specs.declared.Characters.the-variants.{Fit, Unfit}
-use Rattle.service.specs.Service.{plainService, within, isAlphanumeric, serves, isNone, isMark, among, distinct, presentBy, fit, serviceOf, servingBy, Fits, fitting, namedBy, beginsUna, charactersOf}
+use Rattle.service.specs.Service.{plainService, isAlphanumeric, serves, isNone, isMark, among, distinct, presentBy, fit, serviceOf, servingBy, Fits, fitting, namedBy, beginsUna, charactersOf}
 use Rattle.service.specs.laws.ServiceLaws.{and-left, and-right}
 use Rattle.service.specs.Tests.{if}
 

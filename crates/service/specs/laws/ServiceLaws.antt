@@ -6,11 +6,11 @@ use mathlib.Core.List.{List, [], _∷_}
 use mathlib.Core.Bool.{Bool, true, false, not, _&&_, _||_}
 use lib.ListN.{length, getD, List·getD-eq-default}
 use lib.Dec.{T, eqb, leb}
-use borrow.Author.Tests.{eq-eqb, ne-eqb, le-leb, lt-leb, leb-true, leb-false, eqb-true, eqb-false}
+use borrow.Author.Tests.{eq-eqb, ne-eqb, le-leb, lt-leb, leb-true, eqb-true, eqb-false}
 use Rattle.service.specs.declared.Service.{Service}
 use Rattle.service.specs.declared.Characters.{Characters}
 use Rattle.service.specs.declared.Characters.the-variants.{Fit, Unfit}
-use Rattle.service.specs.Service.{plainService, within, isAlphanumeric, serves, isNone, isMark, among, distinct, presentBy, fit, serviceOf, namedBy, servingBy, fitting, beginsUna, charactersOf}
+use Rattle.service.specs.Service.{plainService, isAlphanumeric, serves, isNone, isMark, among, distinct, presentBy, fit, namedBy, servingBy, fitting, beginsUna, charactersOf}
 
 -- ---- tests joined
 pub and-left : (x y : Bool) → (x && y) ≡ true → x ≡ true

@@ -2,13 +2,14 @@
 use Prim.Native.Nat.{_-_}
 use mathlib.Core.Path.{_≡_}
 use Rattle.tally.specs.Tallied.{badBetween}
-use Rattle.tally.specs.laws.TalliedLaws.{bad-past, bad-end, bad-here, bad-on}
+use Rattle.tally.specs.laws.TalliedLaws.{bad-past, bad-here, bad-on}
 use borrow.Author.Needs.{needs}
 use Rattle.tally.proofs.bad_byte.Statement.{statement}
 use Rattle.tally.proofs.bad_byte.Tie as tie
 use Rattle.tally.proofs.bad_byte.Reads as reads
 use Rattle.tally.proofs.bad_byte.Lts as lts
-use Rattle.tally.proofs.is_value_byte.Reads as is-value-byte-reads
+use Rattle.tally.proofs.is_strange.Reads as is-strange-reads
+use Rattle.tally.proofs.past_eights.Reads as past-eights-reads
 
 abbrev Inv-loop : tie.InvT-loop
 Inv-loop m from to i₀ i = badBetween m from to ≡ badBetween m i to
@@ -16,32 +17,32 @@ Inv-loop m from to i₀ i = badBetween m from to ≡ badBetween m i to
 abbrev μ-loop : tie.MeasureT-loop
 μ-loop m from to i₀ i = to - i
 
+past-eights-requires : tie.Need-past-eights-requires Inv-loop μ-loop
+past-eights-requires c κs = search (bad-past, bad-here, bad-on, needs)
+
 loop-holds : tie.Need-loop-holds Inv-loop μ-loop
-loop-holds c = search (bad-past, bad-end, bad-here, bad-on, needs)
+loop-holds c = search (bad-past, bad-here, bad-on, needs)
+
+shared-slice-read-is-strange : tie.Need-shared-slice-read-is-strange Inv-loop μ-loop
+shared-slice-read-is-strange c = search (bad-past, bad-here, bad-on, needs)
+
+is-strange-requires : tie.Need-is-strange-requires Inv-loop μ-loop
+is-strange-requires c κs = search (bad-past, bad-here, bad-on, needs)
 
 returns : tie.Need-returns Inv-loop μ-loop
-returns c = search (bad-past, bad-end, bad-here, bad-on, needs)
-
-shared-slice-read-is-value-byte : tie.Need-shared-slice-read-is-value-byte Inv-loop μ-loop
-shared-slice-read-is-value-byte c = search (bad-past, bad-end, bad-here, bad-on, needs)
-
-is-value-byte-requires : tie.Need-is-value-byte-requires Inv-loop μ-loop
-is-value-byte-requires c κs = search (bad-past, bad-end, bad-here, bad-on, needs)
+returns c = search (bad-past, bad-here, bad-on, needs)
 
 add-i : tie.Need-add-i Inv-loop μ-loop
-add-i c = search (bad-past, bad-end, bad-here, bad-on, needs)
+add-i c = search (bad-past, bad-here, bad-on, needs)
 
 loop-less : tie.Need-loop-less Inv-loop μ-loop
-loop-less c = search (bad-past, bad-end, bad-here, bad-on, needs)
+loop-less c = search (bad-past, bad-here, bad-on, needs)
 
 loop-again : tie.Need-loop-again Inv-loop μ-loop
-loop-again c = search (bad-past, bad-end, bad-here, bad-on, needs)
+loop-again c = search (bad-past, bad-here, bad-on, needs)
 
 returns-2 : tie.Need-returns-2 Inv-loop μ-loop
-returns-2 c = search (bad-past, bad-end, bad-here, bad-on, needs)
-
-returns-3 : tie.Need-returns-3 Inv-loop μ-loop
-returns-3 c = search (bad-past, bad-end, bad-here, bad-on, needs)
+returns-2 c = search (bad-past, bad-here, bad-on, needs)
 
 pub bad-byte-spec : {M : Type 1} → statement M
 bad-byte-spec =
@@ -49,12 +50,12 @@ bad-byte-spec =
     (tie.spec
     Inv-loop
     μ-loop
+    past-eights-requires
     loop-holds
+    shared-slice-read-is-strange
+    is-strange-requires
     returns
-    shared-slice-read-is-value-byte
-    is-value-byte-requires
     add-i
     loop-less
     loop-again
-    returns-2
-    returns-3)
+    returns-2)

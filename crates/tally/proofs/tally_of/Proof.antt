@@ -5,7 +5,7 @@ use lib.ListN.{length}
 use Rattle.segments.specs.laws.SegmentsLaws.{less-segment}
 use Rattle.segments.specs.SegmentList.{segmentsFrom}
 use Rattle.tally.specs.forms.Few.{Few}
-use Rattle.tally.specs.laws.FewLaws.{few-here}
+use Rattle.tally.specs.laws.FewLaws.{few-here, end-here}
 use Rattle.tally.specs.Tallied.{together, tallyOf}
 use Rattle.tally.specs.laws.TalliedLaws.{tally-start, tally-nothing, tally-unfinished, tally-finished, few-together}
 use borrow.Author.Needs.{needs}
@@ -25,40 +25,40 @@ abbrev μ-loop : tie.MeasureT-loop
 μ-loop m v t₀ i₀ t i = length m - i
 
 loop-holds : tie.Need-loop-holds Inv-loop μ-loop
-loop-holds c = search (less-segment, few-here, tally-start, tally-nothing, tally-unfinished, tally-finished, few-together, needs)
+loop-holds c = search (less-segment, few-here, end-here, tally-start, tally-nothing, tally-unfinished, tally-finished, few-together, needs)
 
 segment-at-requires : tie.Need-segment-at-requires Inv-loop μ-loop
-segment-at-requires c κs = search (less-segment, few-here, tally-start, tally-nothing, tally-unfinished, tally-finished, few-together, needs)
+segment-at-requires c κs = search (less-segment, few-here, end-here, tally-start, tally-nothing, tally-unfinished, tally-finished, few-together, needs)
 
 enum-known-g : tie.Need-enum-known-g Inv-loop μ-loop
-enum-known-g c = search (less-segment, few-here, tally-start, tally-nothing, tally-unfinished, tally-finished, few-together, needs)
+enum-known-g c = search (less-segment, few-here, end-here, tally-start, tally-nothing, tally-unfinished, tally-finished, few-together, needs)
 
 code-at-requires : tie.Need-code-at-requires Inv-loop μ-loop
-code-at-requires c κs = search (less-segment, few-here, tally-start, tally-nothing, tally-unfinished, tally-finished, few-together, needs)
+code-at-requires c κs = search (less-segment, few-here, end-here, tally-start, tally-nothing, tally-unfinished, tally-finished, few-together, needs)
 
 count-requires : tie.Need-count-requires Inv-loop μ-loop
-count-requires c κs = search (less-segment, few-here, tally-start, tally-nothing, tally-unfinished, tally-finished, few-together, needs)
+count-requires c κs = search (less-segment, few-here, end-here, tally-start, tally-nothing, tally-unfinished, tally-finished, few-together, needs)
 
 loop-less : tie.Need-loop-less Inv-loop μ-loop
-loop-less c = search (less-segment, few-here, tally-start, tally-nothing, tally-unfinished, tally-finished, few-together, needs)
+loop-less c = search (less-segment, few-here, end-here, tally-start, tally-nothing, tally-unfinished, tally-finished, few-together, needs)
 
 loop-again : tie.Need-loop-again Inv-loop μ-loop
-loop-again c = search (less-segment, few-here, tally-start, tally-nothing, tally-unfinished, tally-finished, few-together, needs)
+loop-again c = search (less-segment, few-here, end-here, tally-start, tally-nothing, tally-unfinished, tally-finished, few-together, needs)
 
 enum-told : tie.Need-enum-told Inv-loop μ-loop
-enum-told c = search (less-segment, few-here, tally-start, tally-nothing, tally-unfinished, tally-finished, few-together, needs)
+enum-told c = search (less-segment, few-here, end-here, tally-start, tally-nothing, tally-unfinished, tally-finished, few-together, needs)
 
 finish-requires : tie.Need-finish-requires Inv-loop μ-loop
-finish-requires c κs = search (less-segment, few-here, tally-start, tally-nothing, tally-unfinished, tally-finished, few-together, needs)
+finish-requires c κs = search (less-segment, few-here, end-here, tally-start, tally-nothing, tally-unfinished, tally-finished, few-together, needs)
 
 returns : tie.Need-returns Inv-loop μ-loop
-returns c = search (less-segment, few-here, tally-start, tally-nothing, tally-unfinished, tally-finished, few-together, needs)
+returns c = search (less-segment, few-here, end-here, tally-start, tally-nothing, tally-unfinished, tally-finished, few-together, needs)
 
 enum-told-2 : tie.Need-enum-told-2 Inv-loop μ-loop
-enum-told-2 c = search (less-segment, few-here, tally-start, tally-nothing, tally-unfinished, tally-finished, few-together, needs)
+enum-told-2 c = search (less-segment, few-here, end-here, tally-start, tally-nothing, tally-unfinished, tally-finished, few-together, needs)
 
 returns-2 : tie.Need-returns-2 Inv-loop μ-loop
-returns-2 c = search (less-segment, few-here, tally-start, tally-nothing, tally-unfinished, tally-finished, few-together, needs)
+returns-2 c = search (less-segment, few-here, end-here, tally-start, tally-nothing, tally-unfinished, tally-finished, few-together, needs)
 
 pub tally-of-spec : {M : Type 1} → statement M
 tally-of-spec =

@@ -1,5 +1,5 @@
--- One segment more. Assumes nothing.
-use Prim.Native.Nat.{ℕ, _+_, _≤_, _<_}
+-- Where one segment more lies. Assumes nothing.
+use Prim.Native.Nat.{ℕ, _≤_, _<_}
 use native.Mathlib.Omega.{arith}
 use mathlib.Core.Path.{_≡_}
 use mathlib.Core.List.{List}
@@ -9,8 +9,10 @@ use Rattle.segments.specs.declared.Segment.{Segment}
 use Rattle.segments.specs.declared.Segment.the-variants.{Finished}
 use Rattle.segments.specs.forms.Segments.{segmentAt}
 use Rattle.segments.specs.laws.SegmentsLaws.{lies}
-use Rattle.tally.specs.declared.Tally.{Tally}
-use Rattle.tally.specs.forms.Few.{Few}
 
 pub few-here : (v : Service) (s : List ℕ) (i : ℕ) (k : Segment) → k ≡ segmentAt v i s → (t n : ℕ) → k ≡ Finished t n → i < length s
 few-here v s i k c t n e = let w = lies v s i k c t n e in omega arith
+
+-- its terminator lies within the bytes
+pub end-here : (v : Service) (s : List ℕ) (i : ℕ) (k : Segment) → k ≡ segmentAt v i s → (t n : ℕ) → k ≡ Finished t n → t ≤ length s
+end-here v s i k c t n e = let w = lies v s i k c t n e in omega arith

@@ -1,13 +1,14 @@
 -- The loops of a tally, turn by turn. Assumes nothing.
-use Prim.Native.Nat.{ℕ, suc, zero, _+_, _-_, _≤_, _<_}
+use Prim.Native.Nat.{ℕ, suc, _+_, _-_, _≤_, _<_}
+use native.Mathlib.Decide.{decLt}
 use native.Mathlib.Omega.{arith}
 use mathlib.Core.Path.{_≡_, refl, sym, _∙_, ap, subst}
-use mathlib.Core.List.{List, [], _∷_}
+use mathlib.Core.List.{List}
 use mathlib.Core.Bool.{Bool, true, false, not, _&&_, _||_}
-use lib.ListN.{length, getD, take, drop, drop-of-length-le}
+use lib.ListN.{length, getD, take, drop}
 use lib.Seq.{drop-cons}
-use lib.Dec.{T, eqb, leb}
-use borrow.Author.Tests.{le-leb, lt-leb}
+use lib.Dec.{T, eqb, leb, ltb}
+use borrow.Author.Tests.{le-leb, lt-leb, le-ltb, lt-ltb}
 use Rattle.service.specs.declared.Service.{Service}
 use Rattle.segments.specs.declared.Segment.{Segment}
 use Rattle.segments.specs.declared.Segment.the-variants as segment
@@ -24,25 +25,25 @@ use Rattle.faults.specs.declared.First.the-variants as first
 use Rattle.faults.specs.Firsts.{lesser, placeUnless}
 use Rattle.faults.specs.laws.FirstsLaws.{lesser-last, lesser-group}
 use Rattle.tally.specs.declared.Tally.{Tally}
+use Rattle.tally.specs.forms.Eights.{eightStrange}
 use Rattle.tally.specs.forms.Few.{Few}
-use Rattle.tally.specs.Tallied.{firstPlace, badBetween, LIN, SEQ, UNT, oneIf, finishedOne, unfinishedOne, nothing, together, tallyOf}
+use Rattle.values.specs.forms.Codes.{LIN, SEQ, UNT}
+use Rattle.tally.specs.Tallied.{firstPlace, badBetween, oneIf, finishedOne, unfinishedOne, nothing, together, tallyOf}
 
 -- ---- a byte
-pub value-low : (b : ℕ) → b < 32 → false ≡ not (isStrange b)
+pub strange-by : (b : ℕ) → b < 256 → ltb b 32 || (ltb 126 b && ltb b 160) ≡ isStrange b
 unfolding isStrange
-value-low b h = let g : b < 160 = omega arith in simp (lt-leb 32 b h, lt-leb 160 b g)
-
-pub value-plain : (b : ℕ) → 32 ≤ b → b ≤ 126 → true ≡ not (isStrange b)
-unfolding isStrange
-value-plain b h g = simp (le-leb 32 b h, le-leb b 126 g)
-
-pub value-high : (b : ℕ) → b < 256 → 32 ≤ b → 126 < b → leb 160 b ≡ not (isStrange b)
-unfolding isStrange
-value-high b k h g = let l : b ≤ 255 = omega arith in simp (le-leb 32 b h, lt-leb b 126 g, le-leb b 255 l) (go (leb 160 b))
+strange-by b k = go (decLt b 32) (decLt 126 b) (decLt b 160)
   where
-    go : (x : Bool) → x ≡ not (not (x && true))
-    go true = refl
-    go false = refl
+    go : Dec (b < 32) → Dec (126 < b) → Dec (b < 160) → ltb b 32 || (ltb 126 b && ltb b 160) ≡ not (leb 32 b && leb b 126 || leb 160 b && leb b 255)
+    go (yes h) q r = let g : b < 160 = omega arith in rw (lt-ltb b 32 h, lt-leb 32 b h, lt-leb 160 b g)
+    go (no h) (no q) r = let g : 32 ≤ b = omega arith in let l : b ≤ 126 = omega arith in rw (le-ltb b 32 g, le-ltb 126 b l, le-leb 32 b g, le-leb b 126 l)
+    go (no h) (yes q) (yes r) = let g : 32 ≤ b = omega arith in rw (le-ltb b 32 g, lt-ltb 126 b q, lt-ltb b 160 r, le-leb 32 b g, lt-leb b 126 q, lt-leb 160 b r)
+    go (no h) (yes q) (no r) =
+        let g : 32 ≤ b = omega arith in
+        let l : 160 ≤ b = omega arith in
+        let u : b ≤ 255 = omega arith in
+        rw (le-ltb b 32 g, lt-ltb 126 b q, le-ltb b 160 l, le-leb 32 b g, lt-leb b 126 q, le-leb 160 b l, le-leb b 255 u)
 
 -- ---- the first bad byte
 module _ (x : First) (m : List ℕ) (to i : ℕ) (inv : x ≡ badBetween m i to) where
@@ -50,15 +51,7 @@ module _ (x : First) (m : List ℕ) (to i : ℕ) (inv : x ≡ badBetween m i to)
   unfolding strangePlaces
   bad-past h = let e : to - i ≡ 0 = omega arith in sym (inv ∙ rw e refl)
 
-  pub bad-end : length m ≤ i → first.None ≡ x
-  unfolding strangePlaces
-  bad-end h = sym (inv ∙ ap (λ (l : List ℕ). firstPlace (strangePlaces i (take (to - i) l))) (drop-of-length-le m h) ∙ none (to - i))
-    where
-      none : (n : ℕ) → firstPlace (strangePlaces i (take n [])) ≡ first.None
-      none zero = refl
-      none (suc n) = refl
-
-  module _ (h : i < to) (g : i < length m) where
+  module _ (h : i < to) (g : to ≤ length m) where
     bad-by : x ≡ firstPlace (keep (isStrange (getD m i 0)) i (strangePlaces (i + 1) (take (to - (i + 1)) (drop (i + 1) m))))
     unfolding strangePlaces
     bad-by =
@@ -66,24 +59,50 @@ module _ (x : First) (m : List ℕ) (to i : ℕ) (inv : x ≡ badBetween m i to)
         let n : suc i ≡ i + 1 = omega arith in
         inv
         ∙ ap (λ (k : ℕ). firstPlace (strangePlaces i (take k (drop i m)))) e
-        ∙ ap (λ (l : List ℕ). firstPlace (strangePlaces i (take (suc (to - (i + 1))) l))) (drop-cons m i 0 g)
+        ∙ ap (λ (l : List ℕ). firstPlace (strangePlaces i (take (suc (to - (i + 1))) l))) (drop-cons m i 0 (omega arith))
         ∙ ap (λ (k : ℕ). firstPlace (keep (isStrange (getD m i 0)) i (strangePlaces k (take (to - (i + 1)) (drop k m))))) n
 
     bad-if : (s : Bool) → isStrange (getD m i 0) ≡ s → x ≡ firstPlace (keep s i (strangePlaces (i + 1) (take (to - (i + 1)) (drop (i + 1) m))))
     bad-if s e = bad-by ∙ ap (λ (b : Bool). firstPlace (keep b i (strangePlaces (i + 1) (take (to - (i + 1)) (drop (i + 1) m))))) e
 
-    module _ (t : Bool) (q : t ≡ not (isStrange (getD m i 0))) where
-      turned : (s u : Bool) → t ≡ not s → t ≡ not u → s ≡ u
-      turned true true a b = refl
-      turned true false a b = absurd (subst T (sym b ∙ a) tt)
-      turned false true a b = absurd (subst T (sym a ∙ b) tt)
-      turned false false a b = refl
+    module _ (t : Bool) (q : t ≡ isStrange (getD m i 0)) where
+      pub bad-here : t ≡ true → first.At i ≡ x
+      bad-here e = sym (bad-if true (sym q ∙ e))
 
-      pub bad-here : t ≡ false → first.At i ≡ x
-      bad-here e = sym (bad-if true (turned (isStrange (getD m i 0)) true q e))
+      pub bad-on : t ≡ false → x ≡ badBetween m (i + 1) to
+      bad-on e = bad-if false (sym q ∙ e)
 
-      pub bad-on : t ≡ true → x ≡ badBetween m (i + 1) to
-      bad-on e = bad-if false (turned (isStrange (getD m i 0)) false q e)
+-- ---- eight bytes
+pub eight-by : (m : List ℕ) (i : ℕ) (a b c d e f g h : Bool) → a ≡ isStrange (getD m i 0) → b ≡ isStrange (getD m (i + 1) 0) → c ≡ isStrange (getD m (i + 2) 0) → d ≡ isStrange (getD m (i + 3) 0)
+    → e ≡ isStrange (getD m (i + 4) 0) → f ≡ isStrange (getD m (i + 5) 0) → g ≡ isStrange (getD m (i + 6) 0) → h ≡ isStrange (getD m (i + 7) 0)
+    → a || b || c || d || e || f || g || h ≡ eightStrange m i
+eight-by m i a b c d e f g h p q r s t u v w = rw (p, q, r, s, t, u, v, w)
+
+neither : (a b : Bool) → a || b ≡ false → (a ≡ false) × (b ≡ false)
+neither true b e = absurd (subst T e tt)
+neither false b e = (refl, e)
+
+-- n bytes are no bad ones, and one more is none
+bad-one : (x : First) (m : List ℕ) (to i n : ℕ) → to ≤ length m → i + suc n ≤ to → isStrange (getD m (i + n) 0) ≡ false → x ≡ badBetween m (i + n) to → x ≡ badBetween m (i + suc n) to
+bad-one x m to i n g h e inv = let k : i + n + 1 ≡ i + suc n = omega arith in bad-on x m to (i + n) inv (omega arith) g false (sym e) refl ∙ ap (λ (j : ℕ). badBetween m j to) k
+
+pub bad-eight : (x : First) (m : List ℕ) (to i : ℕ) → x ≡ badBetween m i to → to ≤ length m → 8 ≤ to → i ≤ to - 8 → (t : Bool) → t ≡ eightStrange m i → t ≡ false → x ≡ badBetween m (i + 8) to
+bad-eight x m to i inv g h l t q f =
+    let a7 = neither _ _ (sym q ∙ f) in
+    let a6 = neither _ _ (a7 .0) in
+    let a5 = neither _ _ (a6 .0) in
+    let a4 = neither _ _ (a5 .0) in
+    let a3 = neither _ _ (a4 .0) in
+    let a2 = neither _ _ (a3 .0) in
+    let a1 = neither _ _ (a2 .0) in
+    let x1 = bad-on x m to i inv (omega arith) g false (sym (a1 .0)) refl in
+    let x2 = bad-one x m to i 1 g (omega arith) (a1 .1) x1 in
+    let x3 = bad-one x m to i 2 g (omega arith) (a2 .1) x2 in
+    let x4 = bad-one x m to i 3 g (omega arith) (a3 .1) x3 in
+    let x5 = bad-one x m to i 4 g (omega arith) (a4 .1) x4 in
+    let x6 = bad-one x m to i 5 g (omega arith) (a5 .1) x5 in
+    let x7 = bad-one x m to i 6 g (omega arith) (a6 .1) x6 in
+    bad-one x m to i 7 g (omega arith) (a7 .1) x7
 
 -- ---- one segment more
 abbrev made : First → ℕ → ℕ → ℕ → First → Tally

@@ -1,6 +1,6 @@
 -- What the run of the trailer comes to: the first faults under 17 and 18. Assumes nothing.
 use Prim.Native.Nat.{ℕ}
-use mathlib.Core.Path.{_≡_, refl, _∙_}
+use mathlib.Core.Path.{_≡_, refl}
 use mathlib.Core.List.{List, [], _∷_}
 use Rattle.message.specs.Segs.{Seg, UNT, is}
 use Rattle.message.specs.Rules.{reference, rule17, rule18}

@@ -13,7 +13,11 @@ use Rattle.service.specs.Service.{charactersOf}
 use Rattle.interchange.specs.declared.Opening.{Opening}
 use Rattle.interchange.specs.declared.Opening.the-variants as opening
 use Rattle.interchange.specs.declared.Closing.{Closing}
-use Rattle.interchange.specs.Envelope.{refusal, openingNumber, openingOf, closingOf}
+use Rattle.interchange.specs.Envelope.{refusal, openingNumber}
+use Rattle.interchange.specs.Opened.{OpenedAs}
+use Rattle.interchange.specs.Closed.{ClosedAs}
+use Rattle.interchange.specs.laws.OpenedLaws.{one-opening}
+use Rattle.interchange.specs.laws.ClosingLaws.{one-closing}
 use Rattle.interchange.specs.laws.WithinLaws.{closing-small}
 use Rattle.lent.specs.Lists.{Lists, left}
 use Rattle.report.specs.declared.Counts.{Counts}
@@ -34,7 +38,8 @@ use Rattle.rewrite.specs.Plain.{rewritingOf, roomAfter}
 use Rattle.rewrite.specs.laws.RoomLaws.{rewriting-small}
 use Rattle.twineherald.specs.declared.ReportNumbers.{ReportNumbers}
 use Rattle.twineherald.specs.declared.StepNumbers.{StepNumbers}
-use Rattle.twineherald.specs.Numbers.{refusedOf, acceptedOf, nothingOf, reportOf, stepWith, stepOf, rewritingNumbers, closingNumbers, Stepped, stepped, Checked, checked, unfit, Rewritten}
+use Rattle.twineherald.specs.declared.ClosingNumbers.{ClosingNumbers}
+use Rattle.twineherald.specs.Numbers.{refusedOf, acceptedOf, nothingOf, reportOf, stepWith, stepOf, rewritingNumbers, closingNumbers, OpenedWith, opened, ClosedWith, closed, Stepped, stepped, Checked, checked, unfit, Rewritten}
 
 -- a number that fits is its low 32 bits
 low : (n a : ℕ) → n ≤ 1048576 → a ≡ n % 4294967296 → a ≡ n
@@ -56,21 +61,19 @@ pub step-by : (found start end a b : ℕ) (r : ReportNumbers) → start ≤ 1048
 step-by found start end a b r h g e f = rw (low start a h e, low end b g f)
 
 -- opening and closing
-pub open-opens : (l : List ℕ) (o : Opening) → o ≡ openingOf l → (v : Service) (first : ℕ) → o ≡ opening.Opens v first → 0 ≡ openingNumber (openingOf l)
-open-opens l o e v first q = sym (ap openingNumber (sym e ∙ q))
+pub open-opens : (l : List ℕ) (o : Opening) → OpenedAs l o → (v : Service) (first : ℕ) → o ≡ opening.Opens v first → OpenedWith l 0
+open-opens l o w v first q = opened o w (sym (ap openingNumber q))
 
-pub open-refused : (l : List ℕ) (o : Opening) → o ≡ openingOf l → (f : Refusal) → o ≡ opening.Refused f → f .number ≡ openingNumber (openingOf l)
-open-refused l o e f q = sym (ap openingNumber (sym e ∙ q))
+pub open-refused : (l : List ℕ) (o : Opening) → OpenedAs l o → (f : Refusal) → o ≡ opening.Refused f → OpenedWith l (f .number)
+open-refused l o w f q = opened o w (sym (ap openingNumber q))
 
-pub closing-by : (l : List ℕ) (c : Closing) → c ≡ closingOf l → (a b : ℕ) → a ≡ c .messages % 4294967296 → b ≡ c .strays % 4294967296
-    → record { number = c .number; messages = a; strays = b } ≡ closingNumbers (closingOf l)
+pub closing-by : (l : List ℕ) (c : Closing) → ClosedAs l c → (a b : ℕ) → a ≡ c .messages % 4294967296 → b ≡ c .strays % 4294967296
+    → ClosedWith l (record { number = c .number; messages = a; strays = b })
 closing-by l c e a b p q =
-    let w = closing-small l in
-    let i = ap (λ (z : Closing). z .messages) e in
-    let j = ap (λ (z : Closing). z .strays) e in
-    let x : a ≡ c .messages = low (c .messages) a (omega (arith, w .messages)) p in
-    let y : b ≡ c .strays = low (c .strays) b (omega (arith, w .strays)) q in
-    rw (x, y) (ap closingNumbers e)
+    let w = closing-small l e in
+    let x : a ≡ c .messages = low (c .messages) a (w .messages) p in
+    let y : b ≡ c .strays = low (c .strays) b (w .strays) q in
+    closed c e (rw (x, y) refl)
 
 module _ (w : Report) (x : ReportNumbers) where
   pub report-accepted : (c : Counts) → w ≡ report.Accepted c → x ≡ acceptedOf c → x ≡ reportOf w
@@ -124,6 +127,12 @@ module _ (b o o′ : List ℕ) (w : Rewriting) (q : w ≡ rewritingOf b (length 
   refused-by c e = record { numbers = sym (ap rewritingNumbers (sym q ∙ e)); room = r }
 
 -- ---- no second answer
+pub one-open : (b : List ℕ) (x y : ℕ) → OpenedWith b x → OpenedWith b y → x ≡ y
+one-open b x y (opened o w e) (opened u k f) = e ∙ ap openingNumber (one-opening b w k) ∙ sym f
+
+pub one-close : (b : List ℕ) (x y : ClosingNumbers) → ClosedWith b x → ClosedWith b y → x ≡ y
+one-close b x y (closed c w e) (closed d k f) = e ∙ ap closingNumbers (one-closing b w k) ∙ sym f
+
 pub one-step : (b : List ℕ) (at : ℕ) (x x1 x2 : Lists) (y z : StepNumbers) → Stepped b at x x1 y → Stepped b at x x2 z → left y x1 ≡ left z x2
 one-step b at x x1 x2 y z (stepped w l e) (stepped u k f) = let g = one-walk b at x x1 x2 w u l k in rw (e, f) (λ i. left (stepOf (g i .answer)) (g i .lists))
 

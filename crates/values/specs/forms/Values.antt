@@ -1,6 +1,5 @@
 -- What a value writes, as the loops find it.
 use Prim.Native.Nat.{ℕ, _+_, _*_, _-_, _/_, _%_}
-use Prim.Native.String.{String}
 use mathlib.Core.List.{List, [], _∷_}
 use mathlib.Core.Bool.{Bool, false}
 use lib.ListN.{drop}
@@ -20,7 +19,6 @@ use Rattle.values.specs.declared.Number.the-variants as number
 use Rattle.values.specs.declared.Whole.{Whole}
 use Rattle.values.specs.declared.Whole.the-variants as whole
 use Rattle.values.specs.Numbers.{valueFrom}
-use Rattle.values.specs.Text.{text}
 
 -- the next byte of the value at i, by the token there
 abbrev pub nextBy : Token → Next
@@ -115,10 +113,6 @@ codeFrom code (b ∷ l) = if (ltb 72057594037927935 code) 0 (if (ltb b 256) (cod
 
 abbrev pub codeOf : List ℕ → ℕ
 codeOf l = codeFrom 1 l
-
--- the code of letters; `says-code` of TextLaws: a value has it exactly if it is these letters
-abbrev pub letters : String → ℕ
-letters w = codeOf (text w)
 
 -- ---- whether a code is that of three capitals
 unfoldable pub isCapital : ℕ → Bool

@@ -1,8 +1,7 @@
 -- Rows 1 to 8 of the cases hold. Assumes nothing.
 use Prim.Native.Nat.{ℕ, _+_}
 use mathlib.Core.Path.{_≡_, refl, sym, ap₂, subst}
-use mathlib.Core.List.{List, [], _∷_}
-use mathlib.Core.Bool.{Bool, true, false}
+use mathlib.Core.List.{[], _∷_}
 use Rattle.service.specs.Service.{isMark}
 use Rattle.segments.specs.Classes.{classOf}
 use Rattle.segments.specs.SegmentList.{pieces}

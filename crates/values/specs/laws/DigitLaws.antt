@@ -1,6 +1,6 @@
 -- Digits and the numbers that they write. Assumes nothing.
-use Prim.Native.Nat.{ℕ, suc, zero, _+_, _*_, _-_, _^_, _≤_, _<_}
-use native.Mathlib.Nat.{zero-mul, zero-add, add-mul, mul-assoc, add-assoc, pow-suc, pow-zero, mul-one, mul-le-mul-right, mul-le-mul-left, pow-le-pow-right}
+use Prim.Native.Nat.{ℕ, suc, _+_, _*_, _-_, _^_, _≤_, _<_}
+use native.Mathlib.Nat.{zero-mul, zero-add, add-mul, mul-assoc, add-assoc, pow-suc, mul-le-mul-right, pow-le-pow-right}
 use native.Mathlib.Decide.{decLt}
 use native.Mathlib.Omega.{arith}
 use mathlib.Core.Path.{_≡_, refl, sym, _∙_, ap}

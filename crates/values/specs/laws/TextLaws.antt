@@ -1,11 +1,12 @@
 -- What the tests of a value say: `sameList`, `says`, and the tests of numbers, amounts and capitals, each exactly. Assumes nothing.
-use Prim.Native.Nat.{ℕ, _<_}
-use Prim.Native.String.{String}
+use Prim.Native.Nat.{ℕ, _+_, _*_, _<_}
+use Prim.Native.Char.{code}
+use Prim.Native.String.{String, [] as end, _∷_ as _before_}
 use native.Mathlib.Omega.{arith}
 use mathlib.Core.Path.{_≡_, refl, sym, _∙_, ap, ap₂}
 use mathlib.Core.List.{List, [], _∷_}
 use mathlib.Core.Bool.{Bool, true, false}
-use lib.Dec.{eqb}
+use lib.Dec.{eqb, ltb}
 use borrow.Author.Tests.{eq-eqb, ne-eqb, eqb-true, eqb-false}
 use Rattle.service.specs.Tests.{if}
 use Rattle.values.specs.declared.Amount.the-variants as amount
@@ -13,7 +14,8 @@ use Rattle.values.specs.Exactly.{Exactly}
 use Rattle.values.specs.Numbers.{NumberIs, ThreeCapitals}
 use Rattle.values.specs.Amounts.{AmountIs}
 use Rattle.values.specs.Text.{text, sameList, says}
-use Rattle.values.specs.forms.Values.{codeOf, letters, numberOf, isNumber, amountOf, isCapitals}
+use Rattle.values.specs.forms.Codes.{onto, letters}
+use Rattle.values.specs.forms.Values.{codeFrom, codeOf, numberOf, isNumber, amountOf, isCapitals}
 use Rattle.values.specs.laws.CodeLaws.{code-one, capitals-value, code-capitals}
 use Rattle.values.specs.laws.NumberLaws.{number-is-true, true-number-is}
 use Rattle.values.specs.laws.AmountIsLaws.{amount-of, of-amount, amount-not, not-amount}
@@ -46,13 +48,28 @@ same-exactly a b = (same-eq a b, eq-same a b)
 pub says-exactly : (l : List ℕ) (w : String) → Exactly (says l w ≡ true) (l ≡ text w)
 says-exactly l w = same-exactly l (text w)
 
--- the code of a value tells whether it is these letters, where theirs is not 0: at most seven, each a byte
-pub says-code : (l : List ℕ) (w : String) → eqb (letters w) 0 ≡ false → says l w ≡ eqb (codeOf l) (letters w)
-says-code l w n = go (sameList l (text w)) refl
+onto-code : (n : ℕ) (w : String) → eqb (codeFrom n (text w)) 0 ≡ false → codeFrom n (text w) ≡ onto n w
+unfolding text codeFrom
+onto-code n end h = refl
+onto-code n (c before w) h = go (onto-code (n * 256 + code c) w) (ltb 72057594037927935 n) (ltb (code c) 256) h
   where
-    go : (t : Bool) → sameList l (text w) ≡ t → sameList l (text w) ≡ eqb (codeOf l) (letters w)
-    go true e = e ∙ sym (eq-eqb (codeOf l) (letters w) (ap codeOf (same-eq l (text w) e)))
-    go false e = e ∙ sym (ne-eqb (codeOf l) (letters w) (λ q. let z = sym e ∙ eq-same l (text w) (sym (code-one (text w) l (eqb-false (letters w) 0 n) (sym q))) in absurd (let y : _≡_ {A = ℕ} 0 1 = cc in omega arith)))
+    go : (eqb (codeFrom (n * 256 + code c) (text w)) 0 ≡ false → codeFrom (n * 256 + code c) (text w) ≡ onto (n * 256 + code c) w)
+        → (t u : Bool) → eqb (if t 0 (if u (codeFrom (n * 256 + code c) (text w)) 0)) 0 ≡ false → if t 0 (if u (codeFrom (n * 256 + code c) (text w)) 0) ≡ onto (n * 256 + code c) w
+    go ih true u e = absurd (let z : _≡_ {A = ℕ} 0 1 = cc in omega arith)
+    go ih false true e = ih e
+    go ih false false e = absurd (let z : _≡_ {A = ℕ} 0 1 = cc in omega arith)
+
+-- letters as a value have the code of these letters, where theirs is not 0: at most seven, each a byte
+pub letters-code : (w : String) → eqb (codeOf (text w)) 0 ≡ false → codeOf (text w) ≡ letters w
+letters-code w h = onto-code 1 w h
+
+-- and the code of a value tells whether it is these letters
+pub says-code : (l : List ℕ) (w : String) → eqb (codeOf (text w)) 0 ≡ false → says l w ≡ eqb (codeOf l) (letters w)
+says-code l w n = go (sameList l (text w)) refl ∙ ap (eqb (codeOf l)) (letters-code w n)
+  where
+    go : (t : Bool) → sameList l (text w) ≡ t → sameList l (text w) ≡ eqb (codeOf l) (codeOf (text w))
+    go true e = e ∙ sym (eq-eqb (codeOf l) (codeOf (text w)) (ap codeOf (same-eq l (text w) e)))
+    go false e = e ∙ sym (ne-eqb (codeOf l) (codeOf (text w)) (λ q. let z = sym e ∙ eq-same l (text w) (sym (code-one (text w) l (eqb-false (codeOf (text w)) 0 n) (sym q))) in absurd (let y : _≡_ {A = ℕ} 0 1 = cc in omega arith)))
 
 -- ---- numbers, amounts, capitals
 -- the test of a number below 10^19 is true exactly if the value writes it

@@ -13,7 +13,7 @@ use Rattle.interchange.specs.declared.Found.{Found}
 use Rattle.interchange.specs.declared.Found.the-variants as found
 use Rattle.interchange.specs.Messages.{foundFrom}
 use Rattle.interchange.specs.Envelope.{refusal}
-use Rattle.walk.specs.Frame.{Step, message, nothing, refused, stepBy, stepAt, stepWith, stepFrom}
+use Rattle.walk.specs.Frame.{message, nothing, refused, stepBy, stepAt, stepWith, stepFrom}
 
 module _ (v : Service) (s : List ℕ) (at : ℕ) where
   pub step-past : length s < at → (f : Refusal) → f ≡ refusal 8 → refused f ≡ stepAt v s at
