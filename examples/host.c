@@ -1,6 +1,6 @@
 /* A small sending program over Twineherald.
  *
- *   host FILE            says in words what the check finds in one file of payment messages
+ *   host FILE            says in words what the check finds in one file of payment messages or debit advices
  *   host --rewrite FILE  writes the file in plain service characters to standard output
  *
  * Exit status: 0 if everything was accepted, 1 if anything was refused, 2 if the program was called
@@ -25,7 +25,7 @@ typedef struct {
     size_t length;
 } slice;
 
-/* What an accepted message is told in. */
+/* What an accepted message is told in; of an advice no totals are told. */
 typedef struct {
     uint16_t *rows;
     uint32_t *starts;
@@ -138,8 +138,8 @@ static const char *words(uint32_t number)
         return "The message has no UNT segment at its end. It was cut off, or the tag of its UNT is "
                "damaged.";
     case TWINEHERALD_TYPE:
-        return "The UNH does not name a message PAYMUL:D:96A:UN, or its reference does not have 1 to 14 "
-               "characters.";
+        return "The UNH names neither an order, PAYMUL:D:96A:UN, nor a debit advice, DEBMUL:D:96A:UN, or "
+               "its reference does not have 1 to 14 characters.";
     case TWINEHERALD_SEGMENTS:
         return "The message has more than 9,999 segments. Make several messages of it.";
     case TWINEHERALD_LISTS:
@@ -153,7 +153,8 @@ static const char *words(uint32_t number)
     case TWINEHERALD_UNT_REFERENCE:
         return "The reference in the UNT is not that of the UNH.";
     case TWINEHERALD_LIN_NUMBER:
-        return "The orders (LIN) must be numbered 1, 2, 3 and so on through the whole message.";
+        return "The orders of a message, or the debits of an advice (LIN), must be numbered 1, 2, 3 and so "
+               "on through the whole message.";
     case TWINEHERALD_SEQ_NUMBER:
         return "The payments (SEQ) must be numbered 1, 2, 3 and so on, from 1 again in each order.";
     case TWINEHERALD_AMOUNT:
@@ -183,6 +184,13 @@ static const char *words(uint32_t number)
                "If the order itself has a PRC, its payments have none.";
     case TWINEHERALD_CONTROL:
         return "The CNT+2 does not count the orders (LIN) of the message rightly.";
+    case TWINEHERALD_ADVICE_DATE:
+        return "The date of a debit (the DTM after its LIN) must be a posting date, 202, or a value date, "
+               "209. An expected date, 455, may stand only in a pre-advice, whose BGM says 342. Ask the bank.";
+    case TWINEHERALD_ADVICE_REFERENCE:
+        return "The references of this transaction do not fit its debit. If the LIN says 106, advice without "
+               "details, there must be none; otherwise the bank must give at least one: an RFF after the FII "
+               "of the transaction, before its amount. Ask the bank.";
     default:
         return "This number is not known to the sending program.";
     }
@@ -254,18 +262,34 @@ static void print_refusal(uint32_t number)
     printf("refused, number %" PRIu32 ": %s\n", number, words(number));
 }
 
-static void print_accepted(const twineherald_step *step, const uint64_t *totals)
+/* The last segment, the UNT, lies in the last row of its chart. */
+static int is_advice(const twineherald_report *report, const uint16_t *rows)
+{
+    return rows[report->segments - 1] == TWINEHERALD_DEBMUL_ROWS;
+}
+
+static void print_counts(const twineherald_report *report, const char *order, const char *payment)
+{
+    print_count(report->segments, "segment");
+    printf(", ");
+    print_count(report->orders, order);
+    printf(", ");
+    print_count(report->payments, payment);
+    printf("\n");
+}
+
+static void print_accepted(const twineherald_report *report, const lists *l)
 {
     printf("  accepted: ");
-    print_count(step->report.segments, "segment");
-    printf(", ");
-    print_count(step->report.orders, "order");
-    printf(", ");
-    print_count(step->report.payments, "payment");
-    printf("\n");
-    for (uint32_t k = 0; k < step->report.orders; k++)
+    if (is_advice(report, l->rows)) {
+        printf("debit advice, ");
+        print_counts(report, "debit", "transaction");
+        return;
+    }
+    print_counts(report, "order", "payment");
+    for (uint32_t k = 0; k < report->orders; k++)
         printf("    order %" PRIu32 ": %" PRIu64 ".%03" PRIu64 "\n",
-               k + 1, totals[k] / 1000, totals[k] % 1000);
+               k + 1, l->totals[k] / 1000, l->totals[k] % 1000);
 }
 
 static void print_refused(const twineherald_step *step, slice message, marks m)
@@ -310,7 +334,7 @@ static uint32_t report_messages(slice file, const lists *l)
         printf("Message %" PRIu32 ", at byte offset %" PRIu32 " of the file, %" PRIu32 " bytes long\n",
                place, step.start, step.end - step.start);
         if (step.report.number == TWINEHERALD_ACCEPTED) {
-            print_accepted(&step, l->totals);
+            print_accepted(&step.report, l);
         } else {
             print_refused(&step, (slice){file.first + step.start, step.end - step.start}, m);
             refusals++;

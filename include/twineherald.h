@@ -1,4 +1,10 @@
-/* Twineherald: checks PAYMUL D.96A payment files before a bank sees them.
+/* Twineherald: checks PAYMUL D.96A payment files before a bank sees them, and the bank's debit advices,
+ * DEBMUL D.96A, that come back.
+ *
+ * A message is an order (PAYMUL) or an advice (DEBMUL) by the type that its UNH names. Each has its own
+ * chart; both are walked, checked and rewritten by the same calls. An advice says what the bank has
+ * debited: its LIN are the debits, counted as orders, and its SEQ the transactions behind them, counted as
+ * payments. It is checked by numbers 10 to 20, 30 and 31. Its amounts are not read: no totals are written.
  *
  * Every call answers, for all bytes and for any lengths and positions. Nothing has to be checked
  * before calling. What the host owes is this and no more:
@@ -40,9 +46,9 @@ enum {
     TWINEHERALD_ROOM = 9,            /* rewriting: the result is longer than the room or than 1,048,576 */
     TWINEHERALD_BYTE = 10,           /* a byte outside 0x20..0x7E and 0xA0..0xFF in a value */
     TWINEHERALD_UNCLOSED = 11,       /* the message has no UNT */
-    TWINEHERALD_TYPE = 12,           /* UNH: reference not 1 to 14 bytes, or not PAYMUL D 96A UN */
+    TWINEHERALD_TYPE = 12,           /* UNH: reference not 1 to 14 bytes, or not PAYMUL or DEBMUL D 96A UN */
     TWINEHERALD_SEGMENTS = 13,       /* more than 9,999 segments */
-    TWINEHERALD_LISTS = 14,          /* a lent list is too short */
+    TWINEHERALD_LISTS = 14,          /* a lent list is too short; an advice needs no list of totals */
     TWINEHERALD_PLACEMENT = 16,      /* here the segments leave the chart */
     TWINEHERALD_UNT_COUNT = 17,      /* UNT's count is not the number of segments */
     TWINEHERALD_UNT_REFERENCE = 18,  /* UNT's reference is not UNH's */
@@ -55,11 +61,21 @@ enum {
     TWINEHERALD_TOTAL = 26,          /* an order's amount is not the sum of its payments */
     TWINEHERALD_PARTIES = 27,        /* the parties of an order or of a payment */
     TWINEHERALD_DETAILS = 28,        /* the remittance details (PRC) of a payment */
-    TWINEHERALD_CONTROL = 29         /* CNT+2 is not the number of orders */
+    TWINEHERALD_CONTROL = 29,        /* CNT+2 is not the number of orders */
+    TWINEHERALD_ADVICE_DATE = 30,    /* advice: a LIN's date is not 202 or 209, nor 455 with 342 in BGM */
+    TWINEHERALD_ADVICE_REFERENCE = 31 /* advice: a SEQ has references (SG11) under LIN 106, or none elsewhere */
+};
+
+/* The number of rows of each chart. The last row is the UNT's, so the last row of an accepted message tells
+ * whether it is an order or an advice. */
+enum {
+    TWINEHERALD_PAYMUL_ROWS = 112,
+    TWINEHERALD_DEBMUL_ROWS = 124
 };
 
 /* The report of one message. Accepted: number is 0, and segments, orders (LIN) and payments (SEQ) are
- * counted. Refused: number, segment and offset say why and where, and the counts are 0. */
+ * counted, in an advice its debits and their transactions. Refused: number, segment and offset say why and
+ * where, and the counts are 0. */
 typedef struct {
     uint32_t number;
     uint32_t segment;
@@ -100,7 +116,8 @@ uint32_t twineherald_open(const uint8_t *bytes, size_t length);
 /* Finds the next message from position at, checks it, and gives its place and its report. Start with
  * position 0, go on with the end of each answer, until nothing is found. If the message is accepted,
  * rows and starts receive the chart row and the first byte (from the UNH's) of each of its segments,
- * and totals the total of each of its orders in thousandths. */
+ * and totals the total of each of its orders in thousandths. Of an advice no totals are written: that list
+ * may be empty and keeps its content. */
 twineherald_step twineherald_walk(const uint8_t *bytes, size_t length, size_t at,
                                   uint16_t *rows, size_t rows_length,
                                   uint32_t *starts, size_t starts_length,

@@ -3,8 +3,10 @@
 use crate::driver::{self, escape, Answers, Call, Case, Difference, Head, Part, Tally};
 use crate::inputs::{self, Input};
 use crate::interchange::{check, close, open, survey, walk, Step};
-use crate::make::extents;
-use crate::message::Lists;
+use crate::kinds::Kind;
+use crate::make::{self, extents};
+use crate::make_advice;
+use crate::message::{self, Lists};
 use crate::random::Random;
 use crate::report;
 use crate::rewrite::{plain, plain_segment};
@@ -28,11 +30,15 @@ pub struct Options {
 /// Lists that are long enough for every message of the comparison that can be accepted.
 pub const AMPLE: Lists = Lists { rows: 12_000, starts: 12_000, totals: 2_000 };
 
-/// What a message needs of the lists: segments, segments, LIN tags (as far as AMPLE goes: a message that
-/// needs more has too many segments).
+/// What a message needs of the lists: segments, segments, LIN tags; a debit advice none of the last (as far
+/// as AMPLE goes: a message that needs more has too many segments).
 fn need(message: &[u8], service: syntax::Service) -> Lists {
     let spans = syntax::spans(message, 0, false, service);
-    let lins = spans.iter().filter(|s| syntax::tag(&message[s.start..s.end], service) == b"LIN").count();
+    let unh = spans.first().map(|s| syntax::elements(&message[s.start..s.end], service));
+    let lins = match unh.and_then(|unh| message::kind(&unh)) {
+        Some(Kind::Debmul) => 0,
+        _ => spans.iter().filter(|s| syntax::tag(&message[s.start..s.end], service) == b"LIN").count(),
+    };
     let segments = spans.len().min(AMPLE.rows);
     Lists { rows: segments, starts: segments, totals: lins.min(AMPLE.rows) }
 }
@@ -192,7 +198,7 @@ fn own_laws(input: &Input) -> Vec<String> {
     if before.len() != messages.len().min(200) {
         wrong.push("the walk does not find the messages that closing counts".to_string());
     }
-    // the segments were made for certain rows, and PAYMUL's chart leaves no choice
+    // the segments were made for certain rows, and the charts leave no choice
     if let (true, Some(segments)) = (input.good, &input.segments) {
         let made: Vec<Vec<u16>> = extents(segments)
             .into_iter()
@@ -496,6 +502,9 @@ pub fn run(options: &Options) -> bool {
         }
     }
     if options.limits && !options.driver.is_empty() {
+        run.add(lent_lists(&mut random));
+    }
+    if options.limits && !options.driver.is_empty() {
         for bytes in inputs::envelopes() {
             let room = plain(&bytes).map_or(0, |p| p.len());
             let calls = vec![(0, Call::Open), (0, Call::Close), (1, Call::Rewrite { room })];
@@ -516,15 +525,34 @@ pub fn run(options: &Options) -> bool {
     summary(&run)
 }
 
+/// An order message and an advice of three lines each, with lists of every length around what they need.
+fn lent_lists(random: &mut Random) -> Case {
+    let mut calls = Vec::new();
+    for message in [make::many_orders(3), make_advice::many_lines(3)] {
+        let message = make::write(random, &message, &make::PLAIN_STYLE);
+        let segments = need(&message, syntax::PLAIN).rows;
+        for rows in [0, segments - 1, segments, segments + 1] {
+            for starts in [0, segments - 1, segments, segments + 1] {
+                for totals in 0..=4 {
+                    let lists = Lists { rows, starts, totals };
+                    let place = random.below(4) as u8;
+                    calls.push((place, Call::Check { head: Head::Whole, part: Part::Bytes(message.clone()), lists }));
+                }
+            }
+        }
+    }
+    Case { label: "lent lists".to_string(), bytes: Vec::new(), place: 0, calls }
+}
+
 fn summary(run: &Run) -> bool {
     let tally = &run.tally;
     let mut missing = Vec::new();
     println!(
-        "accepted messages {}; opened {}, closed with 0 {}, rewritten {}, none left {}",
-        tally.numbers[0], tally.opened, tally.closed, tally.rewritten, tally.none_left
+        "accepted messages {}, of these debit advices {}; opened {}, closed with 0 {}, rewritten {}, none left {}",
+        tally.numbers[0], tally.advices, tally.opened, tally.closed, tally.rewritten, tally.none_left
     );
     println!("refusal  times");
-    for number in (1..=29).filter(|n| *n != 15 && *n != 19) {
+    for number in (1..=31).filter(|n| *n != 15 && *n != 19) {
         println!("{number:>7}  {}", tally.numbers[number]);
         if tally.numbers[number] == 0 {
             missing.push(number);
@@ -534,10 +562,14 @@ fn summary(run: &Run) -> bool {
     println!("inputs {} ({})", run.inputs, kinds.join(", "));
     println!("calls {}, payreport runs {}, differences {}", tally.calls, run.reports, run.differences);
     let called = !run.options.driver.is_empty();
-    if called && (!missing.is_empty() || tally.numbers[0] == 0) {
+    // of both types some must be accepted
+    if tally.advices == 0 || tally.advices == tally.numbers[0] {
+        missing.push(0);
+    }
+    if called && !missing.is_empty() {
         println!("never met: {missing:?}");
     }
     // without the inputs at the limits some numbers cannot be met
-    let all_met = missing.is_empty() && tally.numbers[0] > 0;
+    let all_met = missing.is_empty();
     run.differences == 0 && (!called || all_met || !run.options.limits)
 }

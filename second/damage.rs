@@ -1,11 +1,12 @@
 //! Damage of every kind: values against each rule, segments against the chart, the envelope, bytes.
 
-use crate::chart;
+use crate::damage_advice;
+use crate::kinds::Kind;
 use crate::make::{extents, Segment};
 use crate::random::Random;
 
 /// Values that some rule may take for a number, an amount, a code or a reference.
-const VALUES: [&[u8]; 44] = [
+const VALUES: [&[u8]; 51] = [
     b"",
     b"0",
     b"1",
@@ -45,6 +46,13 @@ const VALUES: [&[u8]; 44] = [
     b"OY",
     b"or",
     b"PAYMUL",
+    b"DEBMUL",
+    b"106",
+    b"107",
+    b"342",
+    b"455",
+    b"202",
+    b"209",
     b"\xFC",
     b"?",
     b"'",
@@ -53,7 +61,7 @@ const VALUES: [&[u8]; 44] = [
 ];
 
 /// Amounts that have not the form (and a few that have).
-const AMOUNTS: [&[u8]; 40] = [
+pub const AMOUNTS: [&[u8]; 40] = [
     b"",
     b",5",
     b".5",
@@ -96,29 +104,30 @@ const AMOUNTS: [&[u8]; 40] = [
     b"999999999999,999",
 ];
 
-const TAGS: [&str; 34] = [
+const TAGS: [&str; 37] = [
     "UNH", "BGM", "DTM", "BUS", "RFF", "FII", "CTA", "COM", "NAD", "LIN", "FCA", "MOA", "CUX", "INP", "FTX", "GIS",
     "LOC", "RCS", "PRC", "SEQ", "PAI", "DOC", "AJT", "DLI", "PIA", "CNT", "AUT", "UNT", "UNZ", "UNB", "UNA", "XXX", "",
-    "lin",
+    "lin", "ALC", "PCD", "TAX",
 ];
 
-/// The segments of one row in one stretch.
-fn of_row(segments: &[Segment], row: u16) -> Vec<usize> {
-    (0..segments.len()).filter(|i| segments[*i].row == row).collect()
+/// The segments of one row of a type's chart.
+pub fn of_row(segments: &[Segment], kind: Kind, row: u16) -> Vec<usize> {
+    (0..segments.len()).filter(|i| segments[*i].is(kind, row)).collect()
 }
 
-fn any_of(random: &mut Random, segments: &[Segment], rows: &[u16]) -> Option<usize> {
-    let all: Vec<usize> = rows.iter().flat_map(|r| of_row(segments, *r)).collect();
+pub fn any_of(random: &mut Random, segments: &[Segment], kind: Kind, rows: &[u16]) -> Option<usize> {
+    let all: Vec<usize> = rows.iter().flat_map(|r| of_row(segments, kind, *r)).collect();
     (!all.is_empty()).then(|| all[random.below(all.len())])
 }
 
 /// Where the stretch that begins at `from` ends: before the next segment of one of these rows, or before
 /// the first row after SG4.
-fn stretch_end(segments: &[Segment], from: usize, rows: &[u16]) -> usize {
+pub fn stretch_end(segments: &[Segment], from: usize, rows: &[u16]) -> usize {
+    let last = segments[from].kind.last_of_sg4();
     let mut end = from + 1;
     while end < segments.len()
         && !rows.contains(&segments[end].row)
-        && segments[end].row <= 107
+        && segments[end].row <= last
         && segments[end].row > 0
     {
         end += 1;
@@ -126,9 +135,19 @@ fn stretch_end(segments: &[Segment], from: usize, rows: &[u16]) -> usize {
     end
 }
 
-/// Breaks (or nearly breaks) the rule of this number somewhere in the messages. Counts are left alone,
-/// save where the rule is about them. Returns false where the messages hold nothing fit for it.
-pub fn break_rule(random: &mut Random, segments: &mut Vec<Segment>, rule: u32) -> bool {
+/// The MOA of level B and that of level C: of PAYMUL in SG5 and SG11, of DEBMUL in SG4 and SG13.
+fn moas(kind: Kind) -> [u16; 2] {
+    match kind {
+        Kind::Paymul => [23, 51],
+        Kind::Debmul => [20, 54],
+    }
+}
+
+/// Breaks (or nearly breaks) the rule of this number somewhere in the messages of this type; some rules are
+/// the other type's, and break nothing here. Counts are left alone, save where the rule is about them.
+/// Returns false where the messages hold nothing fit for it.
+pub fn break_rule(random: &mut Random, segments: &mut Vec<Segment>, kind: Kind, rule: u32) -> bool {
+    let moas = moas(kind);
     match rule {
         10 => {
             // a byte in some value
@@ -147,7 +166,7 @@ pub fn break_rule(random: &mut Random, segments: &mut Vec<Segment>, rule: u32) -
             }
         }
         12 => {
-            let Some(unh) = any_of(random, segments, &[1]) else { return false };
+            let Some(unh) = any_of(random, segments, kind, &[1]) else { return false };
             let (e, c, v) = random.pick(&[
                 (1, 0, b"" as &[u8]),
                 (1, 0, b"123456789012345"),
@@ -157,6 +176,14 @@ pub fn break_rule(random: &mut Random, segments: &mut Vec<Segment>, rule: u32) -
                 (2, 0, b"PAYMUX"),
                 (2, 0, b"paymul"),
                 (2, 0, b"INVOIC"),
+                // one type's segments under the other's name, or under that of a type not read here
+                (2, 0, b"PAYMUL"),
+                (2, 0, b"DEBMUL"),
+                (2, 0, b"DEBMUL "),
+                (2, 0, b"debmul"),
+                (2, 0, b"DEBMU"),
+                (2, 0, b"DIRDEB"),
+                (2, 0, b"CREMUL"),
                 (2, 0, b""),
                 (2, 1, b"S"),
                 (2, 1, b""),
@@ -170,7 +197,7 @@ pub fn break_rule(random: &mut Random, segments: &mut Vec<Segment>, rule: u32) -
             segments[unh].set(e, c, v);
         }
         17 => {
-            let Some(unt) = any_of(random, segments, &[112]) else { return false };
+            let Some(unt) = any_of(random, segments, kind, &[kind.unt()]) else { return false };
             let count: usize = String::from_utf8_lossy(segments[unt].value(1, 0)).parse().unwrap_or(0);
             let new = random.pick(&[
                 (count + 1).to_string(),
@@ -191,7 +218,7 @@ pub fn break_rule(random: &mut Random, segments: &mut Vec<Segment>, rule: u32) -
             }
         }
         18 => {
-            let Some(unt) = any_of(random, segments, &[112]) else { return false };
+            let Some(unt) = any_of(random, segments, kind, &[kind.unt()]) else { return false };
             let mut value = segments[unt].value(2, 0).to_vec();
             match random.below(5) {
                 0 => value.clear(),
@@ -203,8 +230,8 @@ pub fn break_rule(random: &mut Random, segments: &mut Vec<Segment>, rule: u32) -
             segments[unt].set(2, 0, &value);
         }
         20 | 21 => {
-            let (row, element) = if rule == 20 { (17, 1) } else { (50, 2) };
-            let Some(at) = any_of(random, segments, &[row]) else { return false };
+            let (row, element) = if rule == 20 { (kind.lin(), 1) } else { (kind.seq(), 2) };
+            let Some(at) = any_of(random, segments, kind, &[row]) else { return false };
             let number: usize = String::from_utf8_lossy(segments[at].value(element, 0)).parse().unwrap_or(0);
             let new = random.pick(&[
                 (number + 1).to_string(),
@@ -224,12 +251,12 @@ pub fn break_rule(random: &mut Random, segments: &mut Vec<Segment>, rule: u32) -
                 1 => segments[at].set(element, 1, number.to_string().as_bytes()),
                 2 if rule == 21 => {
                     // go on counting across LINs
-                    for (k, seq) in of_row(segments, 50).into_iter().enumerate() {
+                    for (k, seq) in of_row(segments, kind, kind.seq()).into_iter().enumerate() {
                         segments[seq].set(2, 0, (k + 1).to_string().as_bytes());
                     }
                 }
                 3 if rule == 20 => {
-                    for lin in of_row(segments, 17) {
+                    for lin in of_row(segments, kind, kind.lin()) {
                         segments[lin].set(1, 0, b"1");
                     }
                 }
@@ -237,30 +264,30 @@ pub fn break_rule(random: &mut Random, segments: &mut Vec<Segment>, rule: u32) -
             }
         }
         22 => {
-            let Some(moa) = any_of(random, segments, &[23, 51]) else { return false };
+            let Some(moa) = any_of(random, segments, kind, &moas) else { return false };
             let value = random.pick(&AMOUNTS);
             segments[moa].set(1, 1, value);
             // at times the whole order says the same, so that the total still holds
             if random.chance(20) {
-                for other in of_row(segments, 51) {
+                for other in of_row(segments, kind, moas[1]) {
                     segments[other].set(1, 1, value);
                 }
             }
         }
         23 => {
-            let Some(moa) = any_of(random, segments, &[23, 51]) else { return false };
+            let Some(moa) = any_of(random, segments, kind, &moas) else { return false };
             let value =
                 random.pick(&[b"9" as &[u8], b"57", b"", b"8", b"09", b"9 ", b"59", b"5", b"7", b"570", b"057"]);
             segments[moa].set(1, 0, value);
             if random.chance(30) {
                 // the whole message says the same
-                for other in of_row(segments, 51).into_iter().chain(of_row(segments, 23)) {
+                for other in moas.into_iter().flat_map(|row| of_row(segments, kind, row)).collect::<Vec<_>>() {
                     segments[other].set(1, 0, value);
                 }
             }
         }
         24 => {
-            let Some(moa) = any_of(random, segments, &[23, 51]) else { return false };
+            let Some(moa) = any_of(random, segments, kind, &moas) else { return false };
             let value = random.pick(&[
                 b"EUR" as &[u8],
                 b"EU",
@@ -276,14 +303,15 @@ pub fn break_rule(random: &mut Random, segments: &mut Vec<Segment>, rule: u32) -
             ]);
             segments[moa].set(1, 2, value);
             if random.chance(30) {
-                for other in of_row(segments, 51).into_iter().chain(of_row(segments, 23)) {
+                for other in moas.into_iter().flat_map(|row| of_row(segments, kind, row)).collect::<Vec<_>>() {
                     segments[other].set(1, 2, value);
                 }
             }
         }
+        25..=28 if kind == Kind::Debmul && rule != 26 => return damage_advice::odd(random, segments, rule),
         25 => return break_exchange(random, segments),
         26 => {
-            let Some(moa) = any_of(random, segments, &[23, 51]) else { return false };
+            let Some(moa) = any_of(random, segments, kind, &moas) else { return false };
             let old = crate::syntax::amount(segments[moa].value(1, 1)).unwrap_or(5);
             let new = random
                 .pick(&[
@@ -300,7 +328,7 @@ pub fn break_rule(random: &mut Random, segments: &mut Vec<Segment>, rule: u32) -
             let text = crate::make::amount_text(random, new);
             segments[moa].set(1, 1, text.as_bytes());
             if random.chance(10) {
-                for other in of_row(segments, 51) {
+                for other in of_row(segments, kind, moas[1]) {
                     segments[other].set(1, 1, b"999999999999,999");
                 }
             }
@@ -308,7 +336,7 @@ pub fn break_rule(random: &mut Random, segments: &mut Vec<Segment>, rule: u32) -
         27 => return break_parties(random, segments),
         28 => return break_details(random, segments),
         29 => {
-            let Some(cnt) = any_of(random, segments, &[108]) else { return false };
+            let Some(cnt) = any_of(random, segments, kind, &[kind.cnt()]) else { return false };
             let count: usize = String::from_utf8_lossy(segments[cnt].value(1, 1)).parse().unwrap_or(0);
             let new = random.pick(&[
                 (count + 1).to_string(),
@@ -328,15 +356,24 @@ pub fn break_rule(random: &mut Random, segments: &mut Vec<Segment>, rule: u32) -
                 segments.insert(cnt, copy);
             }
         }
+        30 | 31 if kind == Kind::Debmul => return damage_advice::break_rule(random, segments, rule),
+        30 => {
+            let Some(dtm) = any_of(random, segments, kind, &[18]) else { return false };
+            segments[dtm].set(1, 0, random.pick(&[b"202" as &[u8], b"209", b"455", b"137", b""]));
+        }
+        31 => {
+            let Some(lin) = any_of(random, segments, kind, &[17]) else { return false };
+            segments[lin].set(2, 0, random.pick(&[b"106" as &[u8], b"107", b""]));
+        }
         _ => return false,
     }
     true
 }
 
 fn break_exchange(random: &mut Random, segments: &mut Vec<Segment>) -> bool {
-    let Some(moa) = any_of(random, segments, &[23]) else { return false };
+    let Some(moa) = any_of(random, segments, Kind::Paymul, &[23]) else { return false };
     let currency = segments[moa].value(1, 2).to_vec();
-    let cux = (segments.get(moa + 1).is_some_and(|s| s.row == 24)).then_some(moa + 1);
+    let cux = (segments.get(moa + 1).is_some_and(|s| s.is(Kind::Paymul, 24))).then_some(moa + 1);
     let Some(cux) = cux else {
         // a CUX where none is wanted, or 57 with none
         if random.chance(50) {
@@ -399,7 +436,7 @@ fn qualify(segments: &mut [Segment], moa: usize, qualifier: &[u8]) {
 }
 
 fn break_parties(random: &mut Random, segments: &mut Vec<Segment>) -> bool {
-    let Some(at) = any_of(random, segments, &[28, 32, 57, 61]) else { return false };
+    let Some(at) = any_of(random, segments, Kind::Paymul, &[28, 32, 57, 61]) else { return false };
     let row = segments[at].row;
     let codes: &[&[u8]] = match row {
         28 => &[b"OR", b"BF", b"", b"OR ", b"or"],
@@ -467,7 +504,7 @@ fn break_parties(random: &mut Random, segments: &mut Vec<Segment>) -> bool {
 fn break_details(random: &mut Random, segments: &mut Vec<Segment>) -> bool {
     if random.chance(15) {
         // SG10 beside SG16
-        let Some(prc) = any_of(random, segments, &[76]) else { return false };
+        let Some(prc) = any_of(random, segments, Kind::Paymul, &[76]) else { return false };
         let Some(seq) =
             (0..prc).rev().find(|i| segments[*i].row == 17).and_then(|lin| (lin..prc).find(|i| segments[*i].row == 50))
         else {
@@ -477,7 +514,7 @@ fn break_details(random: &mut Random, segments: &mut Vec<Segment>) -> bool {
         segments.insert(seq, Segment::of(47, "PRC+11"));
         return true;
     }
-    let Some(prc) = any_of(random, segments, &[76]) else { return false };
+    let Some(prc) = any_of(random, segments, Kind::Paymul, &[76]) else { return false };
     let end = stretch_end(segments, prc, &[17, 50]);
     match random.below(5) {
         0 | 1 => {
@@ -540,7 +577,7 @@ pub fn break_chart(random: &mut Random, segments: &mut Vec<Segment>) {
             if row == 0 {
                 return;
             }
-            let limit = chart::repeats(row) as usize;
+            let limit = segments[at].kind.chart().repeats(row);
             let standing = segments[at..to].iter().take_while(|s| s.row == row).count()
                 + segments[from..at].iter().rev().take_while(|s| s.row == row).count();
             let wanted = if limit <= 10 { limit + random.below(2) } else { standing + 1 };
@@ -551,20 +588,20 @@ pub fn break_chart(random: &mut Random, segments: &mut Vec<Segment>) {
         }
         10 => {
             // a whole group once more, or as often as it may, or once more than that
-            let row = segments[at].row;
-            if row == 0 || chart::CHART[row as usize - 1].3 == 0 {
+            let (row, chart) = (segments[at].row, segments[at].kind.chart());
+            if row == 0 || chart.group_of(row) == 0 {
                 return;
             }
-            let group = chart::CHART[row as usize - 1].3;
-            let limit = chart::repeats(group) as usize;
+            let group = chart.group_of(row);
+            let limit = chart.repeats(group);
             let inside = |r: u16| {
                 let mut up = r;
                 while up != 0 && up != group {
-                    up = chart::CHART[up as usize - 1].3;
+                    up = chart.group_of(up);
                 }
                 up == group
             };
-            let first = chart::held(group)[0];
+            let first = chart.held(group)[0];
             let Some(start) = (from..=at).rev().find(|i| segments[*i].row == first) else { return };
             let mut end = start + 1;
             while end < to && segments[end].row != 0 && inside(segments[end].row) && segments[end].row != first {
@@ -577,14 +614,14 @@ pub fn break_chart(random: &mut Random, segments: &mut Vec<Segment>) {
             }
         }
         11 => {
-            // rows that never stand
-            let fii: Vec<usize> = (from..to).filter(|i| [9, 28, 57].contains(&segments[*i].row)).collect();
-            if random.chance(30) || fii.is_empty() {
-                segments.insert((from + 3).min(to), Segment::of(4, "BUS+1:SAL"));
-            } else {
-                let place = random.pick(&fii);
-                segments.insert(place + 1, Segment::of(0, random.pick(&["CTA+IC+:J", "COM+1:TE"])));
-            }
+            // rows that never stand: a group's where its first segment does
+            let kind = segments[from].kind;
+            let chart = kind.chart();
+            let never: Vec<u16> = chart.rows().iter().map(|r| r.0).filter(|r| chart.never(*r)).collect();
+            let row = random.pick(&never);
+            let before = if row == 4 { 3 } else { chart.held(chart.group_of(row))[0] };
+            let Some(place) = any_of(random, &segments[from..to], kind, &[before]) else { return };
+            segments.insert(from + place + 1, Segment::of(0, chart.tag_of(row)));
         }
         _ => {
             // a stretch goes
@@ -633,7 +670,8 @@ pub fn break_envelope(random: &mut Random, segments: &mut Vec<Segment>) {
         }
         4 => segments.insert(random.between(1, last.max(1)).min(segments.len()), Segment::of(0, "UNZ+1+R1")),
         5 => {
-            segments.insert(random.between(1, last.max(1)).min(segments.len()), Segment::of(0, "UNH+1+PAYMUL:D:96A:UN"))
+            let unh = random.pick(&["UNH+1+PAYMUL:D:96A:UN", "UNH+1+DEBMUL:D:96A:UN"]);
+            segments.insert(random.between(1, last.max(1)).min(segments.len()), Segment::of(0, unh))
         }
         6 | 7 => {
             let count: usize = String::from_utf8_lossy(segments[last].value(1, 0)).parse().unwrap_or(0);
@@ -816,10 +854,11 @@ pub fn noise(random: &mut Random) -> Vec<u8> {
         b"UNB+A:3++++R'UNH+1+PAYMUL:D:96A:UN'",
         b"\r\n",
         b"UNH+1+PAYMUL:D:96A:UN'",
+        b"UNH+1+DEBMUL:D:96A:UN'",
         b"UN",
     ]);
     let mut bytes = start.to_vec();
-    let pieces: [&[u8]; 22] = [
+    let pieces: [&[u8]; 23] = [
         b"'",
         b"+",
         b":",
@@ -841,6 +880,7 @@ pub fn noise(random: &mut Random) -> Vec<u8> {
         b"!",
         b" ",
         b"UNH+1+PAYMUL:D:96A:UN'",
+        b"UNH+1+DEBMUL:D:96A:UN'",
         b"UNT+2+1'",
     ];
     let kind = random.below(4);

@@ -261,12 +261,21 @@ impl<'a> Answers<'a> {
 /// How often each number was to be given (0: accepted), and the rest of the count.
 #[derive(Default)]
 pub struct Tally {
-    pub numbers: [u64; 30],
+    pub numbers: [u64; 32],
+    /// Of the accepted messages, those of which no total is given.
+    pub advices: u64,
     pub none_left: u64,
     pub opened: u64,
     pub closed: u64,
     pub rewritten: u64,
     pub calls: u64,
+}
+
+impl Tally {
+    fn report(&mut self, number: u32, report: &Report) {
+        self.numbers[number as usize] += 1;
+        self.advices += u64::from(number == 0 && report.totals.is_empty());
+    }
 }
 
 /// A call whose answer is not what it must be.
@@ -352,7 +361,7 @@ pub fn compare(case: &Case, answers: &mut Answers, tally: &mut Tally, difference
                     tally.calls += 1;
                     match step {
                         Step::NoneLeft => tally.none_left += 1,
-                        _ => tally.numbers[must[3] as usize] += 1,
+                        _ => tally.report(must[3], &report),
                     }
                     if is != must || !wrong.is_empty() {
                         differ(
@@ -376,7 +385,7 @@ pub fn compare(case: &Case, answers: &mut Answers, tally: &mut Tally, difference
                 let must = vec![r.fault.0, r.fault.1, r.fault.2, r.segments, r.orders, r.payments];
                 let (is, wrong) = answers.with_lists(b'k', 6, lists, &r)?;
                 tally.calls += 1;
-                tally.numbers[must[0] as usize] += 1;
+                tally.report(must[0], &r);
                 if is != must || !wrong.is_empty() {
                     let about = match part {
                         Part::Inside(offset, length) => format!("bytes {offset}..{} in place", offset + length),

@@ -1,8 +1,9 @@
-//! Inputs for the comparison: good and damaged interchanges, and a few that lie at the limits.
+//! Inputs for the comparison: good and damaged interchanges of both types, and a few that lie at the limits.
 
-use crate::chart;
 use crate::damage;
+use crate::kinds::{Kind, KINDS};
 use crate::make::{self, Profile, Segment, Style};
+use crate::make_advice;
 use crate::random::Random;
 use crate::syntax::{Service, MOST_BYTES};
 
@@ -16,17 +17,31 @@ pub struct Input {
     pub good: bool,
 }
 
-const RULES: [u32; 14] = [10, 12, 17, 18, 20, 21, 22, 23, 24, 25, 26, 27, 28, 29];
+/// Numbers whose rules the damage is aimed at, in messages of each type.
+const PAYMUL_RULES: [u32; 16] = [10, 12, 17, 18, 20, 21, 22, 23, 24, 25, 26, 27, 28, 29, 30, 31];
+const DEBMUL_RULES: [u32; 23] =
+    [10, 12, 17, 18, 20, 20, 21, 22, 23, 24, 25, 26, 27, 28, 29, 30, 30, 30, 30, 31, 31, 31, 31];
+
+fn any_rule(random: &mut Random, kind: Kind) -> u32 {
+    match kind {
+        Kind::Paymul => random.pick(&PAYMUL_RULES),
+        Kind::Debmul => random.pick(&DEBMUL_RULES),
+    }
+}
 
 /// A message of about 10,000 segments, damaged or not, so that 13 and what comes before it meet.
 fn long_input(random: &mut Random) -> Input {
     let count = random.between(9_995, 10_004);
     let documents = random.chance(70);
+    let kind = random.pick(&KINDS);
     let mut segments = make::envelope(random, Vec::new());
-    let mut message = make::long_message(random, count, documents);
+    let mut message = match kind {
+        Kind::Paymul => make::long_message(random, count, documents),
+        Kind::Debmul => make_advice::long_message(count, documents),
+    };
     for _ in 0..random.below(3) {
-        let rule = random.pick(&RULES);
-        damage::break_rule(random, &mut message, rule);
+        let rule = any_rule(random, kind);
+        damage::break_rule(random, &mut message, kind, rule);
     }
     segments.splice(1..1, message);
     if random.chance(80) {
@@ -47,7 +62,15 @@ pub fn random_input(random: &mut Random) -> Input {
         _ => make::RICH,
     };
     let count = random.pick(&[0, 1, 1, 1, 1, 1, 1, 2, 2, 2, 3, 4, 5, 6]);
-    let messages: Vec<Vec<Segment>> = (0..count).map(|_| make::message(random, profile)).collect();
+    // all of one type, or each of either
+    let kinds: &[Kind] =
+        random.pick(&[&KINDS[..1], &KINDS[..1], &KINDS[..1], &KINDS[1..], &KINDS[1..], &KINDS[1..], &KINDS]);
+    let messages: Vec<Vec<Segment>> = (0..count)
+        .map(|_| {
+            let kind = random.pick(kinds);
+            make::message(random, kind, profile)
+        })
+        .collect();
     let mut segments = make::envelope(random, messages);
     let style = make::style(random);
     let kind = random.below(100);
@@ -59,8 +82,9 @@ pub fn random_input(random: &mut Random) -> Input {
         }
         18..=59 => {
             for _ in 0..random.pick(&[1, 1, 1, 2, 3]) {
-                let rule = random.pick(&RULES);
-                let done = damage::break_rule(random, &mut segments, rule);
+                let kind = random.pick(kinds);
+                let rule = any_rule(random, kind);
+                let done = damage::break_rule(random, &mut segments, kind, rule);
                 label += &format!("rule {rule}{} ", if done { "" } else { " (nothing to break)" });
                 if rule != 17 && rule != 18 && random.chance(95) {
                     make::recount(&mut segments);
@@ -242,6 +266,7 @@ pub fn limits(random: &mut Random) -> Vec<Input> {
         ));
     }
     all.push(plain_input(random, "1110 orders", vec![make::many_orders(1_110)], true));
+    debmul_limits(random, &mut all);
     // a count of segments and of messages past every small number
     all.push(bytes_input(
         "report 14000 empty segments",
@@ -261,34 +286,37 @@ pub fn limits(random: &mut Random) -> Vec<Input> {
     }
 
     // every row at its limit and one above, where the limit is small; groups both full and as bare as can be
-    for row in chart::CHART {
-        for times in [row.5, row.5 + 1].map(|n| n as usize) {
-            for (sg10, bare) in [(false, false), (false, true), (true, false), (true, true)] {
-                if times <= 11 && !(bare && !chart::is_group(row.0)) {
-                    if let Some(message) = row_at_limit(random, row.0, times, sg10, bare) {
-                        let label = format!("row {} {times} times", row.0);
-                        all.push(plain_input(random, &label, vec![message], false));
+    for (kind, sg10) in FULL {
+        for row in kind.chart().rows() {
+            for times in [row.5, row.5 + 1].map(|n| n as usize) {
+                for bare in [false, true] {
+                    if times <= 11 && (kind.chart().is_group(row.0) || !bare) {
+                        if let Some(message) = row_at_limit(full_message(random, kind, sg10), row.0, times, bare) {
+                            let label = format!("{} row {} {times} times", kind.name(), row.0);
+                            all.push(plain_input(random, &label, vec![message], false));
+                        }
                     }
                 }
             }
         }
     }
     // each row left out, with an unknown tag, and doubled
-    for sg10 in [false, true] {
-        let full = full_message(random, sg10);
-        for row in chart::CHART {
+    for (kind, sg10) in FULL {
+        let full = full_message(random, kind, sg10);
+        for row in kind.chart().rows() {
             let Some(at) = full.iter().position(|s| s.row == row.0) else { continue };
+            let label = |what: &str| format!("{} row {} {what}", kind.name(), row.0);
             let mut less = full.clone();
             less.remove(at);
             make::recount(&mut less);
-            all.push(plain_input(random, &format!("without the first row {}", row.0), vec![less], false));
+            all.push(plain_input(random, &label("left out"), vec![less], false));
             let mut tagged = full.clone();
             tagged[at].set(0, 0, b"XXX");
-            all.push(plain_input(random, &format!("row {} with an unknown tag", row.0), vec![tagged], false));
+            all.push(plain_input(random, &label("with an unknown tag"), vec![tagged], false));
             let mut doubled = full.clone();
             doubled.insert(at, full[at].clone());
             make::recount(&mut doubled);
-            all.push(plain_input(random, &format!("row {} doubled", row.0), vec![doubled], false));
+            all.push(plain_input(random, &label("doubled"), vec![doubled], false));
         }
     }
 
@@ -367,29 +395,66 @@ pub fn limits(random: &mut Random) -> Vec<Input> {
     all
 }
 
-/// A message in which every row of the chart that may stand does so, with SG10 or with SG16 in its first
-/// order, as these exclude each other.
-pub fn full_message(random: &mut Random, sg10: bool) -> Vec<Segment> {
+/// Inputs at the limits that are a debit advice's own: it needs no totals, and 20 of SG18 and 9,999 of SG24
+/// may stand where an order has less.
+fn debmul_limits(random: &mut Random, all: &mut Vec<Input>) {
+    for (segments, documents) in [(9_999, true), (10_000, true), (9_999, false), (10_001, false)] {
+        let message = make_advice::long_message(segments, documents);
+        all.push(plain_input(random, &format!("{segments} segments, DEBMUL"), vec![message], segments <= 9_999));
+    }
+    for segments in [1_999, 2_000, 2_001] {
+        let message = make_advice::long_message(segments, true);
+        all.push(plain_input(random, &format!("report {segments} segments, DEBMUL"), vec![message], segments <= 2_000));
+    }
+    all.push(plain_input(random, "1110 lines", vec![make_advice::many_lines(1_110)], true));
+    // more lines than payreport has totals for: no 14, and no 16 before the CNT
+    let mut lines = make_advice::many_lines(401);
+    lines.retain(|s| ![43, 46, 48, 54].contains(&s.row));
+    all.push(plain_input(random, "report 401 lines with no transaction", vec![lines.clone()], false));
+    lines.retain(|s| ![18, 20, 22, 25].contains(&s.row));
+    all.push(plain_input(random, "report 401 bare lines", vec![lines], false));
+    for (allowances, adjustments, document_lines) in [(20, 100, 1_001), (21, 0, 0), (0, 101, 0), (1, 1, 9_000)] {
+        let good = allowances <= 20 && adjustments <= 100;
+        let label = format!("ALC {allowances}, AJT {adjustments}, DLI {document_lines}");
+        let message = make_advice::deep_message(allowances, adjustments, document_lines);
+        all.push(plain_input(random, &label, vec![message], good));
+    }
+}
+
+/// The full messages that there are: of PAYMUL with SG16 or with SG10, which exclude each other.
+const FULL: [(Kind, bool); 3] = [(Kind::Paymul, false), (Kind::Paymul, true), (Kind::Debmul, false)];
+
+/// A message in which every row of the chart that may stand does so (of PAYMUL all but SG10 or SG16).
+pub fn full_message(random: &mut Random, kind: Kind, sg10: bool) -> Vec<Segment> {
+    let profile = Profile { optional: 100, at_limit: 0, orders: 1, payments: 1, odd_text: 0 };
+    full_with(random, kind, sg10, profile)
+}
+
+/// The same, of a profile that has every optional row.
+pub fn full_with(random: &mut Random, kind: Kind, sg10: bool, profile: Profile) -> Vec<Segment> {
     loop {
-        let profile = Profile { optional: 100, at_limit: 0, orders: 1, payments: 1, odd_text: 0 };
-        let message = make::message(random, profile);
+        let message = make::message(random, kind, profile);
         let has = |row: u16| message.iter().any(|s| s.row == row);
-        if has(24) && has(32) && has(57) && has(61) && if sg10 { has(47) } else { has(77) && has(79) } {
+        let full = match kind {
+            Kind::Paymul => has(24) && has(32) && has(57) && has(61) && if sg10 { has(47) } else { has(77) && has(79) },
+            Kind::Debmul => has(48),
+        };
+        if full {
             return message;
         }
     }
 }
 
-/// A message with one row (a segment or a group) so many times in one place. A bare group holds only what
-/// it must.
-fn row_at_limit(random: &mut Random, row: u16, times: usize, sg10: bool, bare: bool) -> Option<Vec<Segment>> {
-    let mut message = full_message(random, sg10);
-    let first = if chart::is_group(row) { chart::held(row)[0] } else { row };
+/// A full message with one row (a segment or a group) so many times in one place. A bare group holds only
+/// what it must.
+fn row_at_limit(mut message: Vec<Segment>, row: u16, times: usize, bare: bool) -> Option<Vec<Segment>> {
+    let chart = message[0].kind.chart();
+    let first = if chart.is_group(row) { chart.held(row)[0] } else { row };
     let at = message.iter().position(|s| s.row == first)?;
     // the groups that a row lies in, itself included
     let within = |r: u16| -> Vec<u16> {
         let mut all = vec![r];
-        while let Some(up) = all.last().map(|r| chart::CHART[*r as usize - 1].3).filter(|up| *up != 0) {
+        while let Some(up) = all.last().map(|r| chart.group_of(*r)).filter(|up| *up != 0) {
             all.push(up);
         }
         all
@@ -399,7 +464,7 @@ fn row_at_limit(random: &mut Random, row: u16, times: usize, sg10: bool, bare: b
     let mut one: Vec<Segment> = message[at..one_end].to_vec();
     if bare {
         // a row stays if it and the groups between it and this one are required
-        one.retain(|s| within(s.row).iter().take_while(|r| **r != row).all(|r| chart::required(*r)));
+        one.retain(|s| within(s.row).iter().take_while(|r| **r != row).all(|r| chart.required(*r)));
     }
     // what repeats already goes, and as many as wanted come in; LIN and SEQ numbers stay as they were, for
     // only the chart's limits are meant here
@@ -409,14 +474,14 @@ fn row_at_limit(random: &mut Random, row: u16, times: usize, sg10: bool, bare: b
     Some(message)
 }
 
-/// An interchange of good realistic messages, just below so many bytes.
-pub fn realistic(random: &mut Random, bytes: usize) -> Vec<u8> {
+/// An interchange of good realistic messages of a type, just below so many bytes.
+pub fn realistic(random: &mut Random, kind: Kind, bytes: usize) -> Vec<u8> {
     let service = Service { mark: b'.', ..crate::syntax::PLAIN };
     let style = Style { service, una: true, breaks: &[b"\r\n"], needless: 0, empties: 0 };
     let mut messages: Vec<Vec<Segment>> = Vec::new();
     let mut length = 200;
     loop {
-        let message = make::message(random, make::REAL);
+        let message = make::message(random, kind, make::REAL);
         length += make::write(random, &message, &style).len();
         if length > bytes && !messages.is_empty() {
             break;

@@ -4,17 +4,22 @@
 mod chart;
 mod compare;
 mod damage;
+mod damage_advice;
 mod driver;
 mod inputs;
 mod interchange;
+mod kinds;
 mod make;
+mod make_advice;
 mod message;
 mod random;
 mod report;
 mod rewrite;
 mod selftest;
+mod selftest_advice;
 mod syntax;
 mod tables;
+mod tables_advice;
 
 use std::io::{Read, Write};
 
@@ -24,7 +29,7 @@ const USAGE: &str = "usage:
   second lines < FILE                       the same lines for an interchange of any size, with long lists
   second compare [--driver WORDS] [--payreport WORDS] [--cases N] [--reports N] [--seed S]
                  [--show N] [--keep FOLDER] [--no-limits]
-  second generate [--seed S] [--kind realistic|regular|good|damaged|rewritten] [--bytes N]
+  second generate [--seed S] [--kind realistic|advices|regular|good|damaged|rewritten] [--bytes N]
 WORDS is one argument: a command and its arguments, separated by spaces.";
 
 fn wrong(what: &str) -> ! {
@@ -38,7 +43,7 @@ fn main() {
     let mut options = compare::Options {
         driver: vec![],
         payreport: vec![],
-        cases: 2_500,
+        cases: 3_500,
         reports: 250,
         seed: 1,
         show: 10,
@@ -91,7 +96,8 @@ fn main() {
 fn generate(kind: &str, seed: u64, bytes: usize) -> Vec<u8> {
     let mut random = random::Random::new(seed);
     match kind {
-        "realistic" => inputs::realistic(&mut random, bytes),
+        "realistic" => inputs::realistic(&mut random, kinds::Kind::Paymul, bytes),
+        "advices" => inputs::realistic(&mut random, kinds::Kind::Debmul, bytes),
         "regular" => inputs::regular(bytes),
         "good" | "damaged" => loop {
             let input = inputs::random_input(&mut random);
@@ -99,7 +105,7 @@ fn generate(kind: &str, seed: u64, bytes: usize) -> Vec<u8> {
                 return input.bytes;
             }
         },
-        "rewritten" => rewrite::plain(&inputs::realistic(&mut random, bytes)).unwrap(),
+        "rewritten" => rewrite::plain(&inputs::realistic(&mut random, kinds::Kind::Paymul, bytes)).unwrap(),
         _ => wrong("unknown kind"),
     }
 }

@@ -1,21 +1,33 @@
-//! Good PAYMUL messages and interchanges, made from the chart and the examples of 003.
+//! Good PAYMUL messages, made from the chart and the examples of 003, and interchanges of both types.
 
-use crate::chart;
+use crate::kinds::Kind;
+use crate::make_advice;
 use crate::random::Random;
 use crate::syntax::{fit, Elements, Service, PLAIN};
 
-/// A segment to be written: its row (0 outside messages) and its values.
+/// A segment to be written: its row (0 outside messages), the type whose chart that is, and its values.
 #[derive(Clone, Debug)]
 pub struct Segment {
+    pub kind: Kind,
     pub row: u16,
     pub elements: Elements,
 }
 
 impl Segment {
-    /// From text in plain service characters, with no release: `MOA+9:23800,3:EUR`.
+    /// A segment of PAYMUL, or one outside messages, from text in plain service characters, with no
+    /// release: `MOA+9:23800,3:EUR`.
     pub fn of(row: u16, text: &str) -> Segment {
+        Segment::typed(Kind::Paymul, row, text)
+    }
+
+    pub fn typed(kind: Kind, row: u16, text: &str) -> Segment {
         let elements = text.split('+').map(|e| e.split(':').map(|c| c.as_bytes().to_vec()).collect()).collect();
-        Segment { row, elements }
+        Segment { kind, row, elements }
+    }
+
+    /// Whether it was made for this row of this type's chart.
+    pub fn is(&self, kind: Kind, row: u16) -> bool {
+        self.kind == kind && self.row == row
     }
 
     pub fn tag(&self) -> &[u8] {
@@ -56,7 +68,7 @@ pub const MIDDLE: Profile = Profile { optional: 25, at_limit: 5, orders: 3, paym
 pub const RICH: Profile = Profile { optional: 60, at_limit: 10, orders: 4, payments: 4, odd_text: 10 };
 pub const REAL: Profile = Profile { optional: 30, at_limit: 0, orders: 12, payments: 20, odd_text: 3 };
 
-const CURRENCIES: [&str; 8] = ["EUR", "CHF", "USD", "SEK", "GBP", "JPY", "AAA", "ZZZ"];
+pub const CURRENCIES: [&str; 8] = ["EUR", "CHF", "USD", "SEK", "GBP", "JPY", "AAA", "ZZZ"];
 
 struct Maker<'a> {
     random: &'a mut Random,
@@ -77,10 +89,18 @@ struct Maker<'a> {
     process: &'static str,
 }
 
-/// One good message, UNH to UNT.
-pub fn message(random: &mut Random, profile: Profile) -> Vec<Segment> {
-    let length = random.pick(&[1, 3, 8, 14]);
-    let reference: String = (0..length).map(|_| random.pick(&['A', 'B', '7', '0', '-', 'x', '/'])).collect();
+/// One good message of a type, UNH to UNT.
+pub fn message(random: &mut Random, kind: Kind, profile: Profile) -> Vec<Segment> {
+    let mut message = match kind {
+        Kind::Paymul => paymul(random, profile),
+        Kind::Debmul => make_advice::debmul(random, profile),
+    };
+    recount(&mut message);
+    message
+}
+
+fn paymul(random: &mut Random, profile: Profile) -> Vec<Segment> {
+    let reference = reference(random);
     let orders = random.between(1, profile.orders);
     let mut maker = Maker {
         random,
@@ -101,19 +121,110 @@ pub fn message(random: &mut Random, profile: Profile) -> Vec<Segment> {
         process: "8",
     };
     maker.group(0);
-    let mut out = maker.out;
-    recount(&mut out);
-    out
+    maker.out
+}
+
+/// A message's reference.
+pub fn reference(random: &mut Random) -> String {
+    let length = random.pick(&[1, 3, 8, 14]);
+    (0..length).map(|_| random.pick(&['A', 'B', '7', '0', '-', 'x', '/'])).collect()
+}
+
+/// How often a row stands that stands at all.
+pub fn some(random: &mut Random, profile: Profile, limit: usize) -> usize {
+    if limit == 1 {
+        1
+    } else if limit <= 10 && random.chance(profile.at_limit) {
+        limit
+    } else if random.chance(70) {
+        1
+    } else {
+        random.between(1, limit.min(3))
+    }
+}
+
+pub fn text(random: &mut Random) -> &'static str {
+    random.pick(&[
+        "J SCHMIDT",
+        "FRANKFURT",
+        "SALARY DUE",
+        "INVOICE 4711",
+        "BENETTON",
+        "MILANO",
+        "GREEN FUND",
+        "X",
+        "Membership 2002",
+    ])
+}
+
+pub fn digits(random: &mut Random, most: usize) -> String {
+    let count = random.between(1, most);
+    (0..count).map(|_| char::from(b'0' + random.below(10) as u8)).collect()
+}
+
+pub fn date(random: &mut Random) -> String {
+    format!("20020{}{:02}", random.between(1, 9), random.between(1, 28))
+}
+
+/// A segment of this tag that no rule speaks of, as the examples of the guides have it.
+pub fn usual(random: &mut Random, tag: &str, date: &str) -> String {
+    match tag {
+        "DTM" => format!("DTM+{}:{date}:102", random.pick(&["203", "171", "140", "137"])),
+        "RFF" => format!("RFF+{}:{}", random.pick(&["AEK", "CR", "ACW", "FX", "PQ"]), digits(random, 10)),
+        "BUS" => "BUS+1:SAL+IN".to_string(),
+        "FCA" => format!("FCA+{}", random.pick(&["14", "13", "15"])),
+        "FII" => "FII+MR++DRESDEFF:25:5".to_string(),
+        "NAD" => format!("NAD+MS+{}:160:9", digits(random, 12)),
+        "CTA" => "CTA+IC+:JIM JOHNSON".to_string(),
+        "COM" => format!("COM+{}:TE", digits(random, 9)),
+        "INP" => "INP+3:11+2:AP".to_string(),
+        "FTX" => format!("FTX+PMD+++{}{}", text(random), random.pick(&["", ":second line", "+EN"])),
+        "GIS" => format!("GIS+{}", random.pick(&["37", "38", "10"])),
+        "LOC" => "LOC+57+DE".to_string(),
+        "RCS" => "RCS+ZZZ+120".to_string(),
+        "PAI" => "PAI+::8::5".to_string(),
+        "DOC" => format!("DOC+380+{}", digits(random, 8)),
+        "MOA" => format!("MOA+{}:{}:EUR", random.pick(&["12", "9", "77", "128"]), digits(random, 6)),
+        "CUX" => "CUX+2:EUR+3:USD+0.9".to_string(),
+        "AJT" => "AJT+12".to_string(),
+        "DLI" => format!("DLI+O+{}", digits(random, 3)),
+        "PIA" => "PIA+1+4711:SA".to_string(),
+        "ALC" => "ALC+C+:55".to_string(),
+        "PCD" => "PCD+3:0,4".to_string(),
+        "TAX" => "TAX+7+VAT+++:::20++NVET0244".to_string(),
+        "AUT" => format!("AUT+{}", digits(random, 6)),
+        other => other.to_string(),
+    }
+}
+
+/// Odd bytes in free text and in references that no rule reads.
+pub fn odd_bytes(random: &mut Random, segment: &mut Segment) {
+    let odd: &[u8] = random.pick(&[
+        b"A'B" as &[u8],
+        b"?",
+        b"??'",
+        b":+'?",
+        b"\xFCber \xA0\xFF",
+        b" ",
+        b"1+1=2",
+        b"?:",
+        b"'",
+        b"*.,~!",
+    ]);
+    let element = random.between(1, 4);
+    let component = random.below(2);
+    segment.set(element, component, odd);
 }
 
 impl Maker<'_> {
     /// One occurrence of a group: its rows in chart order, each some number of times.
     fn group(&mut self, group: u16) {
-        for row in chart::held(group) {
+        let chart = Kind::Paymul.chart();
+        for &row in chart.held(group) {
             let times = self.times(row);
             for k in 0..times {
                 self.before(row, k);
-                if chart::is_group(row) {
+                if chart.is_group(row) {
                     self.group(row);
                 } else {
                     let segment = self.segment(row, k);
@@ -183,9 +294,10 @@ impl Maker<'_> {
 
     /// How many times a row stands.
     fn times(&mut self, row: u16) -> usize {
-        let limit = chart::repeats(row) as usize;
+        let chart = Kind::Paymul.chart();
+        let limit = chart.repeats(row);
         match row {
-            _ if chart::never(row) => 0,
+            _ if chart.never(row) => 0,
             16 => self.orders,
             24 => usize::from(self.qualifier == "57"),
             31 => self.parties_b.len(),
@@ -197,113 +309,61 @@ impl Maker<'_> {
             75 => usize::from(self.random.chance(self.profile.optional.max(30))),
             77 if self.process == "8" => 0,
             78 if self.process == "11" => 0,
-            77 | 78 => self.some(limit),
-            _ if chart::required(row) || self.random.chance(self.profile.optional) => self.some(limit),
+            77 | 78 => some(self.random, self.profile, limit),
+            _ if chart.required(row) || self.random.chance(self.profile.optional) => {
+                some(self.random, self.profile, limit)
+            }
             _ => 0,
         }
     }
 
-    fn some(&mut self, limit: usize) -> usize {
-        if limit == 1 {
-            1
-        } else if limit <= 10 && self.random.chance(self.profile.at_limit) {
-            limit
-        } else if self.random.chance(70) {
-            1
-        } else {
-            self.random.between(1, limit.min(3))
-        }
-    }
-
-    fn text(&mut self) -> String {
-        self.random
-            .pick(&[
-                "J SCHMIDT",
-                "FRANKFURT",
-                "SALARY DUE",
-                "INVOICE 4711",
-                "BENETTON",
-                "MILANO",
-                "GREEN FUND",
-                "X",
-                "Membership 2002",
-            ])
-            .to_string()
-    }
-
-    fn digits(&mut self, most: usize) -> String {
-        let count = self.random.between(1, most);
-        (0..count).map(|_| char::from(b'0' + self.random.below(10) as u8)).collect()
-    }
-
     /// A segment for a row, as the examples of 003 have it.
     fn segment(&mut self, row: u16, k: usize) -> Segment {
-        let tag = chart::tag_of(row);
-        let date = format!("20020{}{:02}", self.random.between(1, 9), self.random.between(1, 28));
-        let text = match (row, tag) {
-            (1, _) => format!("UNH+{}+PAYMUL:D:96A:UN{}", self.reference, self.random.pick(&["", ":FUN01G"])),
-            (2, _) => format!("BGM+452+{}+9", self.digits(10)),
-            (3, _) => format!("DTM+137:{date}:102"),
-            (17, _) => format!("LIN+{}", self.line),
-            (23, _) => {
+        let tag = Kind::Paymul.chart().tag_of(row);
+        let date = date(self.random);
+        let text = match row {
+            1 => format!("UNH+{}+PAYMUL:D:96A:UN{}", self.reference, self.random.pick(&["", ":FUN01G"])),
+            2 => format!("BGM+452+{}+9", digits(self.random, 10)),
+            3 => format!("DTM+137:{date}:102"),
+            17 => format!("LIN+{}", self.line),
+            23 => {
                 let total = self.amounts.iter().sum();
                 format!("MOA+{}:{}:{}", self.qualifier, amount_text(self.random, total), self.currency)
             }
-            (24, _) => self.exchange(),
-            (28, _) => {
+            24 => self.exchange(),
+            28 => {
                 let holder = if self.holder_b {
                     self.random.pick(&[":J SCHMIDT", ":J SCHMIDT:FRANKFURT ", "::FRANKFURT", ": "])
                 } else {
                     self.random.pick(&["", ":", "::", ":::EUR"])
                 };
-                format!("FII+OR+{}{holder}+:::50080000:25:131+DE", self.digits(9))
+                format!("FII+OR+{}{holder}+:::50080000:25:131+DE", digits(self.random, 9))
             }
-            (32, _) => format!("NAD+{}+2729712345832::9", self.parties_b[0]),
-            (47, _) => format!("PRC+{}", self.random.pick(&["11", "8", "XX", ""])),
-            (50, _) => format!("SEQ+{}+{}", self.random.pick(&["", "", "YF3"]), self.sequence),
-            (51, _) => {
+            32 => format!("NAD+{}+2729712345832::9", self.parties_b[0]),
+            47 => format!("PRC+{}", self.random.pick(&["11", "8", "XX", ""])),
+            50 => format!("SEQ+{}+{}", self.random.pick(&["", "", "YF3"]), self.sequence),
+            51 => {
                 let amount = self.amounts[self.sequence - 1];
                 format!("MOA+{}:{}:{}", self.qualifier, amount_text(self.random, amount), self.currency)
             }
-            (57, _) => {
+            57 => {
                 let (qualifier, named) = self.institutions_c[0];
                 let holder = if named {
                     self.random.pick(&[":J SCHMIDT:FRANKFURT", "::BERN", ":X"])
                 } else {
                     self.random.pick(&["", "::"])
                 };
-                format!("FII+{qualifier}+{}{holder}+DRESDEFF:25:5+DE", self.digits(9))
+                format!("FII+{qualifier}+{}{holder}+DRESDEFF:25:5+DE", digits(self.random, 9))
             }
-            (61, _) => {
-                let name = self.text();
+            61 => {
+                let name = text(self.random);
                 format!("NAD+{}+++{name}++MILANO++IT", self.parties_c[0])
             }
-            (76, _) => format!("PRC+{}", self.process),
-            (108, _) if k == 0 || self.random.chance(20) => format!("CNT+2:{}", self.orders),
-            (108, _) => format!("CNT+{}:{}", self.random.pick(&["39", "1", "", "02"]), self.digits(6)),
-            (110, _) => format!("AUT+{}", self.digits(6)),
-            (112, _) => format!("UNT+0+{}", self.reference),
-            (_, "DTM") => format!("DTM+{}:{date}:102", self.random.pick(&["203", "171", "140", "137"])),
-            (_, "RFF") => format!("RFF+{}:{}", self.random.pick(&["AEK", "CR", "ACW", "FX", "PQ"]), self.digits(10)),
-            (_, "BUS") => "BUS+1:SAL+IN".to_string(),
-            (_, "FCA") => format!("FCA+{}", self.random.pick(&["14", "13", "15"])),
-            (_, "FII") => "FII+MR++DRESDEFF:25:5".to_string(),
-            (_, "NAD") => format!("NAD+MS+{}:160:9", self.digits(12)),
-            (_, "CTA") => "CTA+IC+:JIM JOHNSON".to_string(),
-            (_, "COM") => format!("COM+{}:TE", self.digits(9)),
-            (_, "INP") => "INP+3:11+2:AP".to_string(),
-            (_, "FTX") => format!("FTX+PMD+++{}{}", self.text(), self.random.pick(&["", ":second line", "+EN"])),
-            (_, "GIS") => format!("GIS+{}", self.random.pick(&["37", "38", "10"])),
-            (_, "LOC") => "LOC+57+DE".to_string(),
-            (_, "RCS") => "RCS+ZZZ+120".to_string(),
-            (_, "PAI") => "PAI+::8::5".to_string(),
-            (_, "DOC") => format!("DOC+380+{}", self.digits(8)),
-            (_, "MOA") => format!("MOA+{}:{}:EUR", self.random.pick(&["12", "9", "77", "128"]), self.digits(6)),
-            (_, "CUX") => "CUX+2:EUR+3:USD+0.9".to_string(),
-            (_, "AJT") => "AJT+12".to_string(),
-            (_, "DLI") => format!("DLI+O+{}", self.digits(3)),
-            (_, "PIA") => "PIA+1+4711:SA".to_string(),
-            (_, other) => other.to_string(),
+            76 => format!("PRC+{}", self.process),
+            108 if k == 0 || self.random.chance(20) => format!("CNT+2:{}", self.orders),
+            108 => format!("CNT+{}:{}", self.random.pick(&["39", "1", "", "02"]), digits(self.random, 6)),
+            112 => format!("UNT+0+{}", self.reference),
+            _ => usual(self.random, tag, &date),
         };
         match row {
             32 => drop(self.parties_b.remove(0)),
@@ -312,25 +372,10 @@ impl Maker<'_> {
             _ => {}
         }
         let mut segment = Segment::of(row, &text);
-        // odd bytes in free text and in references that no rule reads
         if matches!(tag, "FTX" | "RFF" | "DOC" | "COM" | "AUT" | "BGM" | "GIS")
             && self.random.chance(self.profile.odd_text)
         {
-            let odd: &[u8] = self.random.pick(&[
-                b"A'B" as &[u8],
-                b"?",
-                b"??'",
-                b":+'?",
-                b"\xFCber \xA0\xFF",
-                b" ",
-                b"1+1=2",
-                b"?:",
-                b"'",
-                b"*.,~!",
-            ]);
-            let element = self.random.between(1, 4);
-            let component = self.random.below(2);
-            segment.set(element, component, odd);
+            odd_bytes(self.random, &mut segment);
         }
         segment
     }

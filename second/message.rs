@@ -1,6 +1,7 @@
-//! One message judged: the faults 10 to 29, the least of them, and what an accepted message gives.
+//! One message judged, by the type that its UNH names: the faults 10 to 31, the least of them, and what an
+//! accepted message gives.
 
-use crate::chart::{self, Chart};
+use crate::kinds::{Kind, KINDS};
 use crate::syntax::*;
 
 /// The lengths of the lent lists: rows, starts, totals.
@@ -21,7 +22,8 @@ pub struct Report {
     pub segments: u32,
     pub orders: u32,
     pub payments: u32,
-    /// What the lists receive: as many rows and starts as segments, as many totals as orders.
+    /// What the lists receive: as many rows and starts as segments; of PAYMUL as many totals as orders, of
+    /// DEBMUL none.
     pub rows: Vec<u16>,
     pub starts: Vec<u32>,
     pub totals: Vec<u64>,
@@ -83,38 +85,53 @@ pub fn judge(bytes: &[u8], service: Service, lists: Lists) -> Report {
         })
         .collect();
 
-    if let Some(fault) = least(faults_before_placing(bytes, &spans, &segments, lists)) {
+    let kind = segments.first().and_then(|first| kind(&first.elements));
+    if let Some(fault) = least(faults_before_placing(bytes, &spans, &segments, kind, lists)) {
         return Report::refused(fault.0, fault.1, fault.2);
     }
+    let kind = kind.expect("12 would have been given");
     let tags: Vec<Vec<u8>> = segments.iter().map(|s| s.tag().to_vec()).collect();
-    match chart().reading(&tags) {
+    match kind.chart().reading(&tags) {
         Err(place) => {
             let (number, segment, offset) = segments[place - 1].fault(16);
             return Report::refused(number, segment, offset);
         }
         Ok(rows) => segments.iter_mut().zip(rows).for_each(|(s, row)| s.row = row),
     }
-    if let Some(fault) = least(faults_once_placed(&segments)) {
+    let orders = orders(kind, &segments);
+    if let Some(fault) = least(faults_once_placed(kind, &segments, &orders)) {
         return Report::refused(fault.0, fault.1, fault.2);
     }
     Report {
         fault: (0, 0, 0),
         segments: segments.len() as u32,
-        orders: segments.iter().filter(|s| s.row == LIN).count() as u32,
-        payments: segments.iter().filter(|s| s.row == SEQ).count() as u32,
+        orders: orders.len() as u32,
+        payments: of_row(&segments, kind.seq()).len() as u32,
         rows: segments.iter().map(|s| s.row).collect(),
         starts: segments.iter().map(|s| s.start).collect(),
-        totals: orders(&segments).iter().map(|o| order_amount(o).expect("22 would have been given")).collect(),
+        totals: match kind {
+            Kind::Paymul => orders.iter().map(|o| order_amount(o).expect("22 would have been given")).collect(),
+            Kind::Debmul => vec![],
+        },
     }
 }
 
-fn chart() -> &'static Chart {
-    static CHART: std::sync::OnceLock<Chart> = std::sync::OnceLock::new();
-    CHART.get_or_init(|| Chart::of(&chart::CHART))
+/// The type that a UNH names: by message type, version, release and agency. None where it is neither, or
+/// where this is no UNH.
+pub fn kind(unh: &Elements) -> Option<Kind> {
+    let d96a = value(unh, 2, 1) == b"D" && value(unh, 2, 2) == b"96A" && value(unh, 2, 3) == b"UN";
+    let named = |kind: &Kind| value(unh, 2, 0) == kind.name().as_bytes();
+    KINDS.into_iter().find(|kind| value(unh, 0, 0) == b"UNH" && d96a && named(kind))
 }
 
 /// Numbers 10 to 14.
-fn faults_before_placing(bytes: &[u8], spans: &[Span], segments: &[Segment], lists: Lists) -> Vec<Fault> {
+fn faults_before_placing(
+    bytes: &[u8],
+    spans: &[Span],
+    segments: &[Segment],
+    kind: Option<Kind>,
+    lists: Lists,
+) -> Vec<Fault> {
     let mut faults = Vec::new();
     // 10: a byte outside 0x20..0x7E and 0xA0..0xFF. Separators and releases are inside.
     for (i, span) in spans.iter().enumerate() {
@@ -129,68 +146,66 @@ fn faults_before_placing(bytes: &[u8], spans: &[Span], segments: &[Segment], lis
     if !closed {
         faults.push((11, 1, 0));
     }
-    // 12
-    let header = segments.first().is_some_and(|unh| {
-        unh.tag() == b"UNH"
-            && (1..=14).contains(&unh.value(1, 0).len())
-            && unh.value(2, 0) == b"PAYMUL"
-            && unh.value(2, 1) == b"D"
-            && unh.value(2, 2) == b"96A"
-            && unh.value(2, 3) == b"UN"
-    });
-    if !header {
+    // 12: neither type, or no such reference
+    let referenced = segments.first().is_some_and(|unh| (1..=14).contains(&unh.value(1, 0).len()));
+    if kind.is_none() || !referenced {
         faults.push((12, 1, 0));
     }
     // 13
     if let Some(beyond) = segments.get(MOST_SEGMENTS) {
         faults.push(beyond.fault(13));
     }
-    // 14
-    let lin_tags = segments.iter().filter(|s| s.tag() == b"LIN").count();
-    if lists.rows < segments.len() || lists.starts < segments.len() || lists.totals < lin_tags {
+    // 14: of DEBMUL no totals are written, and none are asked for
+    let totals = match kind {
+        Some(Kind::Debmul) => 0,
+        _ => segments.iter().filter(|s| s.tag() == b"LIN").count(),
+    };
+    if lists.rows < segments.len() || lists.starts < segments.len() || lists.totals < totals {
         faults.push((14, 0, 0));
     }
     faults
 }
 
-// Rows of the chart that the rules speak of.
-const LIN: u16 = 17;
+// Rows of PAYMUL's chart that its rules speak of.
 const MOA_SG5: u16 = 23;
 const CUX_SG5: u16 = 24;
 const FII_SG6: u16 = 28;
 const NAD_SG7: u16 = 32;
 const PRC_SG10: u16 = 47;
-const SEQ: u16 = 50;
 const MOA_SG11: u16 = 51;
 const FII_SG12: u16 = 57;
 const NAD_SG13: u16 = 61;
 const PRC_SG16: u16 = 76;
 const FTX_SG16: u16 = 77;
 const DOC_SG17: u16 = 79;
-const LAST_OF_SG4: u16 = 107;
-const CNT: u16 = 108;
+
+// Rows of DEBMUL's chart that its rules speak of.
+const BGM: u16 = 2;
+const DTM_SG4: u16 = 18;
+const RFF_SG11: u16 = 48;
 
 /// The stretches of segments that begin with this row and go on up to the next such row or up to the
 /// first row after SG4.
-fn stretches(segments: &[Segment], first: u16) -> Vec<&[Segment]> {
+fn stretches(kind: Kind, segments: &[Segment], first: u16) -> Vec<&[Segment]> {
     let starts: Vec<usize> = (0..segments.len()).filter(|i| segments[*i].row == first).collect();
     starts
         .iter()
         .map(|from| {
-            let length = segments[from + 1..].iter().take_while(|s| s.row != first && s.row <= LAST_OF_SG4).count();
+            let inside = |s: &&Segment| s.row != first && s.row <= kind.last_of_sg4();
+            let length = segments[from + 1..].iter().take_while(inside).count();
             &segments[*from..from + 1 + length]
         })
         .collect()
 }
 
 /// From one LIN to the next.
-fn orders(segments: &[Segment]) -> Vec<&[Segment]> {
-    stretches(segments, LIN)
+fn orders(kind: Kind, segments: &[Segment]) -> Vec<&[Segment]> {
+    stretches(kind, segments, kind.lin())
 }
 
 /// From one SEQ to the next, in one order.
-fn payments(order: &[Segment]) -> Vec<&[Segment]> {
-    stretches(order, SEQ)
+fn payments(kind: Kind, order: &[Segment]) -> Vec<&[Segment]> {
+    stretches(kind, order, kind.seq())
 }
 
 fn of_row(stretch: &[Segment], row: u16) -> Vec<&Segment> {
@@ -201,8 +216,8 @@ fn order_amount(order: &[Segment]) -> Option<u64> {
     amount(of_row(order, MOA_SG5)[0].value(1, 1))
 }
 
-/// Numbers 17 to 29, rule by rule in the order of document 01.
-fn faults_once_placed(segments: &[Segment]) -> Vec<Fault> {
+/// Numbers 17 to 31, rule by rule: 17 to 20 for both types, then those of each.
+fn faults_once_placed(kind: Kind, segments: &[Segment], orders: &[&[Segment]]) -> Vec<Fault> {
     let mut faults = Vec::new();
     let (unh, unt) = (&segments[0], segments.last().unwrap());
 
@@ -212,31 +227,64 @@ fn faults_once_placed(segments: &[Segment]) -> Vec<Fault> {
     if unt.value(2, 0) != unh.value(1, 0) {
         faults.push(unt.fault(18));
     }
-
-    let orders = orders(segments);
     for (i, order) in orders.iter().enumerate() {
         let lin = &order[0];
         if !number_is(lin.value(1, 0), i + 1) {
             faults.push(lin.fault(20));
         }
-        for (k, payment) in payments(order).iter().enumerate() {
+    }
+    match kind {
+        Kind::Paymul => paymul(segments, orders, &mut faults),
+        Kind::Debmul => debmul(segments, orders, &mut faults),
+    }
+    faults
+}
+
+/// 21 to 29, in the order of document 01.
+fn paymul(segments: &[Segment], orders: &[&[Segment]], faults: &mut Vec<Fault>) {
+    for order in orders {
+        for (k, payment) in payments(Kind::Paymul, order).iter().enumerate() {
             let seq = &payment[0];
             if !number_is(seq.value(2, 0), k + 1) {
                 faults.push(seq.fault(21));
             }
         }
-        amounts(order, &mut faults);
-        exchange(order, &mut faults);
-        parties(order, &mut faults);
-        details(order, &mut faults);
+        amounts(order, faults);
+        exchange(order, faults);
+        parties(order, faults);
+        details(order, faults);
     }
-
-    for cnt in of_row(segments, CNT) {
+    for cnt in of_row(segments, Kind::Paymul.cnt()) {
         if cnt.value(1, 0) == b"2" && !number_is(cnt.value(1, 1), orders.len()) {
             faults.push(cnt.fault(29));
         }
     }
-    faults
+}
+
+/// 30 and 31, as W-201 has them.
+fn debmul(segments: &[Segment], orders: &[&[Segment]], faults: &mut Vec<Fault>) {
+    // "LIN's DTM only 202, 209 or 455, and 455 only if BGM's 1001 is 342"
+    let pre_advice = of_row(segments, BGM)[0].value(1, 0) == b"342";
+    for dtm in of_row(segments, DTM_SG4) {
+        let holds = match dtm.value(1, 0) {
+            b"202" | b"209" => true,
+            b"455" => pre_advice,
+            _ => false,
+        };
+        if !holds {
+            faults.push(dtm.fault(30));
+        }
+    }
+    // "SG11 absent if LIN's 1229 is 106 and present in every SG10 otherwise"
+    for order in orders {
+        let without_details = order[0].value(2, 0) == b"106";
+        for transaction in payments(Kind::Debmul, order) {
+            let referenced = !of_row(transaction, RFF_SG11).is_empty();
+            if referenced == without_details {
+                faults.push(transaction[0].fault(31));
+            }
+        }
+    }
 }
 
 /// 22 amounts, 23 qualifiers, 24 currencies, 26 totals.
@@ -312,7 +360,7 @@ fn parties(order: &[Segment], faults: &mut Vec<Fault>) {
     if !holds {
         faults.push(order[0].fault(27));
     }
-    for payment in payments(order) {
+    for payment in payments(Kind::Paymul, order) {
         let bf = with(payment, FII_SG12, b"BF");
         let pe = with(payment, NAD_SG13, b"PE");
         let be = with(payment, NAD_SG13, b"BE");
@@ -330,7 +378,7 @@ fn parties(order: &[Segment], faults: &mut Vec<Fault>) {
 /// 28
 fn details(order: &[Segment], faults: &mut Vec<Fault>) {
     let sg10 = !of_row(order, PRC_SG10).is_empty();
-    for payment in payments(order) {
+    for payment in payments(Kind::Paymul, order) {
         let text = !of_row(payment, FTX_SG16).is_empty();
         let documents = !of_row(payment, DOC_SG17).is_empty();
         for prc in of_row(payment, PRC_SG16) {

@@ -1,20 +1,23 @@
-//! Document 01's example and its cases 1 to 12, and a few other sentences of it, on this program itself.
+//! Document 01's example and its cases 1 to 12, and a few other sentences of it, on this program itself. Those
+//! of debit advices are in `selftest_advice.rs`.
 
 use crate::chart;
 use crate::interchange::{check, close, open, walk, Step};
+use crate::kinds::{Kind, KINDS};
 use crate::message::Lists;
 use crate::random::Random;
 use crate::report::report;
 use crate::rewrite::rewrite;
+use crate::selftest_advice;
 use crate::syntax::*;
 
-struct Tests {
+pub struct Tests {
     passed: usize,
     failed: usize,
 }
 
 impl Tests {
-    fn hold(&mut self, what: &str, holds: bool) {
+    pub fn hold(&mut self, what: &str, holds: bool) {
         if holds {
             self.passed += 1;
         } else {
@@ -24,7 +27,7 @@ impl Tests {
     }
 }
 
-const AMPLE: Lists = Lists { rows: 100, starts: 100, totals: 10 };
+pub const AMPLE: Lists = Lists { rows: 100, starts: 100, totals: 10 };
 
 /// A good message around the segments of orders, from LIN on.
 fn message(orders: &str) -> Vec<u8> {
@@ -83,13 +86,13 @@ pub fn run() -> bool {
         rewrite(twelve, 1000) == Ok(b"UNB+UNOA:3+A+B+020107:1200+R1'DTM+137:20020107:102'RFF'UNZ+0+R1'".to_vec()),
     );
 
-    // the chart is a tree in order: groups before what they hold, each group opened by a segment
-    let in_order = chart::CHART.iter().enumerate().all(|(i, r)| r.0 as usize == i + 1 && r.3 < r.0);
-    let opened = chart::CHART.iter().filter(|r| chart::is_group(r.0)).all(|r| {
-        let first = chart::held(r.0)[0];
-        first == r.0 + 1 && !chart::is_group(first) && chart::tag_of(first) == r.2 && chart::repeats(first) == 1
-    });
-    t.hold("the chart", in_order && opened);
+    for kind in KINDS {
+        t.hold(&format!("the chart of {}", kind.name()), in_order(kind));
+        let same = as_published(kind);
+        t.hold(&format!("the rows of {}", kind.name()), same);
+    }
+    selftest_advice::run(&mut t);
+    samples(&mut t);
 
     // opening
     for (bytes, must) in [
@@ -154,7 +157,10 @@ pub fn run() -> bool {
             "CUX" => 1 + 2 + 3 + 1,
             // short ones 81 + 108, long ones 9 by 5, and 1,00 and 1.00 against 1
             "amounts" => 81 + 108 + 45 + 4,
-            _ => continue,
+            _ => match selftest_advice::accepted(name) {
+                Some(must) => must,
+                None => continue,
+            },
         };
         t.hold(&format!("table of {name}: {accepted} accepted"), accepted == must);
     }
@@ -170,6 +176,42 @@ pub fn run() -> bool {
 
     println!("{} passed, {} failed", t.passed, t.failed);
     t.failed == 0
+}
+
+/// The chart is a tree in order: groups before what they hold, each group opened by a segment; and the rows
+/// that the rules name are those of their tags.
+fn in_order(kind: Kind) -> bool {
+    let chart = kind.chart();
+    let in_order = chart.rows().iter().enumerate().all(|(i, r)| r.0 as usize == i + 1 && r.3 < r.0);
+    let opened = chart.rows().iter().filter(|r| chart.is_group(r.0)).all(|r| {
+        let first = chart.held(r.0)[0];
+        first == r.0 + 1 && !chart.is_group(first) && chart.tag_of(first) == r.2 && chart.repeats(first) == 1
+    });
+    let named = [(kind.lin(), "LIN"), (kind.seq(), "SEQ"), (kind.cnt(), "CNT"), (kind.unt(), "UNT")];
+    in_order && opened && named.iter().all(|(row, tag)| chart.tag_of(*row) == *tag)
+}
+
+/// Against the table in `charts/`, where that is at hand; otherwise the number of rows alone.
+fn as_published(kind: Kind) -> bool {
+    let rows = kind.chart().rows();
+    match std::fs::read_to_string(format!("charts/{}.tsv", kind.name().to_lowercase())) {
+        Ok(table) => {
+            let line = |r: &chart::Row| format!("{}\t{}\t{}\t{}\t{}\t{}", r.0, r.1, r.2, r.3, r.4, r.5);
+            let first_six = |line: &str| line.split('\t').take(6).collect::<Vec<_>>().join("\t");
+            table.lines().map(first_six).eq(rows.iter().map(line))
+        }
+        Err(_) => rows.len() == if kind == Kind::Paymul { 112 } else { 124 },
+    }
+}
+
+/// The report of each sample, where `samples/` is at hand.
+fn samples(t: &mut Tests) {
+    let Ok(folder) = std::fs::read_dir("samples") else { return };
+    for path in folder.map(|entry| entry.unwrap().path()).filter(|path| path.extension().is_some_and(|e| e == "edi")) {
+        let must = std::fs::read_to_string(path.with_extension("txt")).unwrap_or_default();
+        let is = report(&std::fs::read(&path).unwrap());
+        t.hold(&format!("{}: {is}", path.display()), is == must);
+    }
 }
 
 /// All lists of rows that one occurrence of a group may have, by the definition: its first segment once,

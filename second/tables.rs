@@ -1,16 +1,18 @@
 //! Messages for rules that are small enough to try in every combination: parties, CUX, PRC, amounts,
-//! numbers, currencies, qualifiers, UNH, and every tag after every place of a full message.
+//! numbers, currencies, qualifiers, UNH, and every tag after every place of a full message. Those of debit
+//! advices are in `tables_advice.rs`.
 
-use crate::chart;
-use crate::inputs::full_message;
-use crate::make::{self, Profile};
+use crate::inputs::{full_message, full_with};
+use crate::kinds::Kind;
+use crate::make::{self, Profile, Segment};
 use crate::random::Random;
+use crate::tables_advice;
 
 /// A name and its messages.
 pub type Table = (&'static str, Vec<Vec<u8>>);
 
 /// All lists of up to `most` of these.
-fn lists(of: &[&str], most: usize) -> Vec<String> {
+pub fn lists(of: &[&str], most: usize) -> Vec<String> {
     let mut all = vec![String::new()];
     let mut last = all.clone();
     for _ in 0..most {
@@ -57,7 +59,8 @@ fn whole(orders: &str, cnt: &str) -> Vec<u8> {
 }
 
 pub fn tables(random: &mut Random) -> Vec<Table> {
-    vec![
+    let full = [full_message(random, Kind::Paymul, false), full_message(random, Kind::Paymul, true)];
+    let mut all = vec![
         ("level B parties", level_b()),
         ("level C parties", level_c()),
         ("CUX", exchange()),
@@ -66,8 +69,10 @@ pub fn tables(random: &mut Random) -> Vec<Table> {
         ("currencies and qualifiers", codes()),
         ("numbers", numbers()),
         ("UNH", headers()),
-        ("tags", tags(random)),
-    ]
+        ("tags", tags(random, Kind::Paymul, &full)),
+    ];
+    all.extend(tables_advice::tables(random));
+    all
 }
 
 fn level_b() -> Vec<Vec<u8>> {
@@ -194,8 +199,8 @@ fn codes() -> Vec<Vec<u8>> {
     all
 }
 
-/// LIN and SEQ numbers, UNT's and CNT's counts: every short text of digits and others.
-fn numbers() -> Vec<Vec<u8>> {
+/// Every short text of digits and others, and numbers beyond the machine's.
+pub fn number_texts() -> Vec<String> {
     let mut texts = lists(&["0", "1", "2", " ", "a"], 3);
     for long in ["1", "2"] {
         texts.push(format!("{}{long}", "0".repeat(29)));
@@ -206,11 +211,16 @@ fn numbers() -> Vec<Vec<u8>> {
             texts.push(((1u128 << power) + number).to_string());
         }
     }
+    texts
+}
+
+/// LIN and SEQ numbers, UNT's and CNT's counts.
+fn numbers() -> Vec<Vec<u8>> {
     let payment = |n: &str| format!("SEQ++{n}'MOA+9:1:EUR'RFF'NAD+BE'");
     let order =
         |n: &str, total: usize, payments: &str| format!("LIN+{n}'DTM'RFF'MOA+9:{total}:EUR'FII+OR+1:N'{payments}");
     let mut all = Vec::new();
-    for text in &texts {
+    for text in &number_texts() {
         let (one, two) = (payment("1"), payment("2"));
         let text = text.as_str();
         all.push(whole(&order(text, 1, &one), "CNT+2:1'"));
@@ -242,7 +252,7 @@ fn headers() -> Vec<Vec<u8>> {
                 .into_bytes(),
         );
     }
-    for kind in ["PAYMUL", "PAYMUX", "paymul", "", "PAYMULL"] {
+    for kind in ["PAYMUL", "PAYMUX", "paymul", "", "PAYMULL", "DEBMUL"] {
         for version in ["D", "d", "", "DD"] {
             for release in ["96A", "96B", "", "96"] {
                 for agency in ["UN", "", "UNO"] {
@@ -259,23 +269,26 @@ fn headers() -> Vec<Vec<u8>> {
     all
 }
 
-/// For a full message: each tag of the chart, and some others, after each of its beginnings, then UNT.
-fn tags(random: &mut Random) -> Vec<Vec<u8>> {
-    let mut known: Vec<&str> = chart::CHART.iter().map(|r| r.2).collect();
+/// For full messages, a bare one and one with every row at its limit: each tag of the chart, and some others,
+/// after each of its beginnings, then UNT.
+pub fn tags(random: &mut Random, kind: Kind, full: &[Vec<Segment>]) -> Vec<Vec<u8>> {
+    let chart = kind.chart();
+    let mut known: Vec<&str> = chart.rows().iter().map(|r| r.2).collect();
     known.sort();
     known.dedup();
     known.retain(|t| *t != "UNT");
     known.extend(["", "XXX", "UNZ", "lin", "LINE", "LI"]);
+    let one = Profile { optional: 0, at_limit: 0, orders: 1, payments: 1, odd_text: 0 };
+    let bare = make::message(random, kind, one);
+    let limits = full_with(random, kind, false, Profile { optional: 100, at_limit: 100, ..one });
     let mut all = Vec::new();
-    let bare = make::message(random, Profile { optional: 0, at_limit: 0, orders: 1, payments: 1, odd_text: 0 });
-    let limits = make::message(random, Profile { optional: 100, at_limit: 100, orders: 1, payments: 1, odd_text: 0 });
-    for message in [bare, limits, full_message(random, false), full_message(random, true)] {
-        let message: Vec<&str> = message.iter().map(|s| chart::tag_of(s.row)).collect();
+    for message in [&[bare, limits], full].concat() {
+        let message: Vec<&str> = message.iter().map(|s| chart.tag_of(s.row)).collect();
         // of a long message, some of the beginnings
         let step = message.len() / 150 + 1;
         for length in (1..message.len()).filter(|l| l % step == 0 || *l < 60) {
             let beginning: String = message[1..length].iter().map(|t| format!("{t}'")).collect();
-            let beginning = format!("UNH+1+PAYMUL:D:96A:UN'{beginning}");
+            let beginning = format!("UNH+1+{}:D:96A:UN'{beginning}", kind.name());
             for tag in &known {
                 all.push(format!("{beginning}{tag}'UNT'").into_bytes());
             }

@@ -25,6 +25,14 @@ for edi in samples/*.edi; do
     esac
     if [ "$ok" = 1 ] && [ ! -s "$log/err" ]; then good "host $edi, $how"; else bad "host $edi, $how (status $got)"; cat "$log/host" "$log/err"; fi
 done
+# Of an order and an advice in one file: the totals of the order's two LIN are told, and none of the advice.
+$host samples/order_and_advice.edi >"$log/host" 2>"$log/err"
+if [ "$(grep -c '^    order ' "$log/host")" = 2 ] && tail -n 3 "$log/host" | head -n 1 | grep -q '^  accepted: debit advice, 34 segments, 2 debits, 3 transactions$'; then
+    good "host: an order and an advice, $how"
+else
+    bad "host: an order and an advice, $how"
+    cat "$log/host" "$log/err"
+fi
 # Rewriting: twice is the same as once, and every message keeps its number and segment.
 for edi in samples/*.edi; do
     $host --rewrite "$edi" >"$log/once" 2>/dev/null || continue

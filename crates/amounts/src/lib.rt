@@ -348,16 +348,16 @@ pub fn step(st: Amounts, m: &[u8], v: Service, at: usize, nth: usize, row: usize
     ensures { λ r. ⌜ sumsOf v (now (m .entry)) r ≡ sumsStep (segAt v (now (m .entry)) 0 23 0) (sumsOf v (now (m .entry)) st) (segAt v (now (m .entry)) nth row at) ⌝ }
     ensures { λ r. ⌜ r .order .at ≡ ownAt (st .order .at) row at ⌝ }
 {
-    if row == chart::LIN {
+    if row == paymul::LIN {
         return next_order(st, m, v, no_order());
     }
-    if row == chart::ORDER_MOA {
+    if row == paymul::ORDER_MOA {
         return order_moa(st, m, v, at, nth);
     }
-    if row == chart::ORDER_CUX {
+    if row == paymul::ORDER_CUX {
         return exchange(st, m, v, at, nth);
     }
-    if row == chart::PAYMENT_MOA {
+    if row == paymul::PAYMENT_MOA {
         return payment_moa(st, m, v, at, nth);
     }
     st

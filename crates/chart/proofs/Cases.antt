@@ -9,16 +9,20 @@ use Rattle.chart.specs.Chart.{Reading, FirstMisfit}
 use Rattle.chart.specs.forms.Machine.{only, run, step, stepRows, free, freeRows, placed, stuck, choose, takes, owed, rowsBy}
 use Rattle.table.specs.Entries.{linesFrom, within, text}
 use Rattle.values.specs.forms.Codes.{UNH, BGM, DTM, LIN, RFF, MOA, FII, SEQ, CNT, UNT}
-use Rattle.chart.specs.Paymul.{PAYMUL, table, chart}
-use Rattle.chart.specs.forms.Rows.{rowsOf}
+use Rattle.kinds.specs.declared.Kind.the-variants.{Paymul}
+use Rattle.paymul.specs.Table.{PAYMUL, table}
+use Rattle.chart.specs.Chart.{Rows}
 use Rattle.chart.specs.Table.{chartOf, rowOver, inside}
 use Rattle.chart.specs.forms.Columns.{parentOf, firstOf}
-use Rattle.chart.specs.forms.Next.{nextOf, chainFrom, findIn, nextRow}
+use Rattle.chart.specs.forms.Next.{nextOf, chainFrom, findIn, nextRow, rowsOf}
 use Rattle.segments.specs.SegmentList.{pieces, startsFrom, startsOf}
 use Rattle.chart.proofs.Plain.{placed-one, stuck-fails}
 use Rattle.chart.proofs.Theorems.{closed-fails}
 use Rattle.chart.proofs.Whole.{fine, reading-of}
-use Rattle.chart.proofs.Paymul.{paymul-sound}
+use Rattle.chart.proofs.Tables.{sound}
+
+abbrev chart : Rows
+chart = chartOf PAYMUL
 
 -- ---- one order of one payment, with no segment that may be left out
 abbrev least : List ℕ
@@ -28,14 +32,14 @@ least-run : run least (only chart) 0 ≡ placed
 unfolding PAYMUL table linesFrom within text chartOf rowOver inside run step stepRows free freeRows choose takes owed
 least-run = refl
 
-least-rows : rowsOf least ≡ 1 ∷ 2 ∷ 3 ∷ 17 ∷ 18 ∷ 19 ∷ 23 ∷ 28 ∷ 50 ∷ 51 ∷ 53 ∷ 108 ∷ 112 ∷ []
+least-rows : rowsOf PAYMUL least ≡ 1 ∷ 2 ∷ 3 ∷ 17 ∷ 18 ∷ 19 ∷ 23 ∷ 28 ∷ 50 ∷ 51 ∷ 53 ∷ 108 ∷ 112 ∷ []
 unfolding PAYMUL table linesFrom within text rowsBy nextRow chainFrom findIn nextOf parentOf firstOf
 least-rows = refl
 
 pub least-reading : Reading chart least (1 ∷ 2 ∷ 3 ∷ 17 ∷ 18 ∷ 19 ∷ 23 ∷ 28 ∷ 50 ∷ 51 ∷ 53 ∷ 108 ∷ 112 ∷ [])
 least-reading =
-    let p = placed-one chart least (fine PAYMUL paymul-sound) least-run in
-    subst (λ (l : List ℕ). Reading chart least l) least-rows (reading-of PAYMUL paymul-sound least (p .0) (p .1))
+    let p = placed-one chart least (fine PAYMUL (sound Paymul)) least-run in
+    subst (λ (l : List ℕ). Reading chart least l) least-rows (reading-of PAYMUL (sound Paymul) least (p .0) (p .1))
 
 -- ---- UNH and UNT alone: no message begins so, and the misfit is the second segment
 short-run : run (UNH ∷ UNT ∷ []) (only chart) 0 ≡ stuck 1
@@ -43,7 +47,7 @@ unfolding PAYMUL table linesFrom within text chartOf rowOver inside run step ste
 short-run = refl
 
 pub short-misfit : FirstMisfit chart (UNH ∷ UNT ∷ []) 1
-short-misfit = closed-fails chart UNT (paymul-sound .closed) (UNH ∷ UNT ∷ []) (UNH ∷ []) refl 1 (stuck-fails chart (UNH ∷ UNT ∷ []) 1 (fine PAYMUL paymul-sound) short-run)
+short-misfit = closed-fails chart UNT (sound Paymul .closed) (UNH ∷ UNT ∷ []) (UNH ∷ []) refl 1 (stuck-fails chart (UNH ∷ UNT ∷ []) 1 (fine PAYMUL (sound Paymul)) short-run)
 
 -- ---- its bytes, UNH+1+PAYMUL:D:96A:UN'UNT+2+1'
 abbrev plain : Service

@@ -3,9 +3,9 @@ pub mod Cases
 pub mod Guide
 pub mod Lines
 pub mod Nest
-pub mod Paymul
 pub mod Plain
 pub mod Stream
+pub mod Tables
 pub mod Theorems
 pub mod Theory
 pub mod Walk

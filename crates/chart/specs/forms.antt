@@ -3,5 +3,4 @@ pub mod Cursor
 pub mod Machine
 pub mod Next
 pub mod Placing
-pub mod Rows
 pub mod Sound

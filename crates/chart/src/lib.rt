@@ -1,4 +1,4 @@
-// Placing a message's segments on the chart.
+// Placing a message's segments on a chart.
 ghost use mathlib.Core.Path.{_≡_};
 ghost use Prim.Native.Nat.{_<_};
 ghost use lib.ListN.{length};
@@ -9,21 +9,10 @@ ghost use Rattle.chart.specs.Answer.{Answers};
 ghost use Rattle.chart.specs.forms.Next.{nextOf, nextRow};
 ghost use Rattle.chart.specs.forms.Columns.{tagOf, parentOf, endOf, statusOf, reqOf, mostOf, firstOf, RowIs, Some};
 ghost use Rattle.chart.specs.forms.Sound.{Sound};
-ghost use Rattle.chart.specs.Paymul.{PAYMUL};
-pub use paymul::CNT;
-pub use paymul::LIN;
-pub use paymul::ORDER_CUX;
-pub use paymul::ORDER_FII;
-pub use paymul::ORDER_MOA;
-pub use paymul::ORDER_NAD;
-pub use paymul::ORDER_PRC;
-pub use paymul::PAYMENT_DOC;
-pub use paymul::PAYMENT_FII;
-pub use paymul::PAYMENT_FTX;
-pub use paymul::PAYMENT_MOA;
-pub use paymul::PAYMENT_NAD;
-pub use paymul::PAYMENT_PRC;
-pub use paymul::SEQ;
+ghost use Rattle.kinds.specs.Kinds.{tableOf};
+ghost use Rattle.paymul.specs.Table.{PAYMUL};
+ghost use Rattle.debmul.specs.Table.{DEBMUL};
+use kinds::Kind;
 use segments::Segment;
 use service::Service;
 use table::COLUMNS;
@@ -232,13 +221,46 @@ fn place_occurrences(m: &[u8], v: Service, t: &[[u8; COLUMNS]], r: usize, from: 
     Went::To(c)
 }
 
-// Whether the message's segments can be placed on the table, or the first with which no message begins.
-fn place_on(m: &[u8], v: Service, t: &[[u8; COLUMNS]]) -> Placed
+// All rows of the table: the message's own, once.
+fn place_all(m: &[u8], v: Service, t: &[[u8; COLUMNS]], from: Cursor) -> Went
     requires { ⌜ Sound (now t) ⌝ }
-    ensures { λ x. ⌜ Answers (now (t .entry)) v (now (m .entry)) x ⌝ }
+    ensures { λ x. ⌜ RowsDone (now (t .entry)) v (now (m .entry)) 0 (length (now (t .entry))) from x ⌝ }
+{
+    place_rows(m, v, t, 0, t.len(), from)
+}
+
+// The same of the PAYMUL chart.
+fn place_order(m: &[u8], v: Service, from: Cursor) -> Went
+    ensures { λ x. ⌜ RowsDone PAYMUL v (now (m .entry)) 0 (length PAYMUL) from x ⌝ }
+{
+    let chart = paymul::chart();
+    place_all(m, v, &chart, from)
+}
+
+// The same of the DEBMUL chart.
+fn place_advice(m: &[u8], v: Service, from: Cursor) -> Went
+    ensures { λ x. ⌜ RowsDone DEBMUL v (now (m .entry)) 0 (length DEBMUL) from x ⌝ }
+{
+    let chart = debmul::chart();
+    place_all(m, v, &chart, from)
+}
+
+// The same of the chart of a kind of message.
+fn place_kind(m: &[u8], v: Service, kind: Kind, from: Cursor) -> Went
+    ensures { λ x. ⌜ RowsDone (tableOf kind) v (now (m .entry)) 0 (length (tableOf kind)) from x ⌝ }
+{
+    match kind {
+        Kind::Paymul => place_order(m, v, from),
+        Kind::Debmul => place_advice(m, v, from),
+    }
+}
+
+// Whether the message's segments can be placed on the chart of a kind, or the first with which no message begins.
+pub fn place(m: &[u8], v: Service, kind: Kind) -> Placed
+    ensures { λ x. ⌜ Answers (tableOf kind) v (now (m .entry)) x ⌝ }
 {
     let c = cursor_at(m, 0, v);
-    let w = place_rows(m, v, t, 0, t.len(), c);
+    let w = place_kind(m, v, kind, c);
     match w {
         Went::To(d) => {
             if d.at < m.len() {
@@ -248,14 +270,6 @@ fn place_on(m: &[u8], v: Service, t: &[[u8; COLUMNS]]) -> Placed
         }
         Went::Stuck(at) => Placed::Stuck(at),
     }
-}
-
-// The same on the PAYMUL chart.
-pub fn place(m: &[u8], v: Service) -> Placed
-    ensures { λ x. ⌜ Answers PAYMUL v (now (m .entry)) x ⌝ }
-{
-    let chart = paymul::chart();
-    place_on(m, v, &chart)
 }
 
 // The row to try after a row: the one beside it, or after the last of a group the group again.

@@ -25,6 +25,7 @@ use Rattle.demands.specs.OtherMessages.{Chosen, Damaged, Unharmed}
 use Rattle.demands.specs.Predecessor.{Predecessor}
 use Rattle.demands.specs.Verdicts.{Keeps}
 use Rattle.demands.specs.Cases.{Cases}
+use Rattle.demands.specs.AdviceCases.{AdviceCases}
 use Rattle.demands.specs.OneAnswer.{OneAnswer}
 use Rattle.demands.specs.WrongReaders.{WrongReaders}
 
@@ -61,3 +62,5 @@ pub record Demands : Type 0 where
   pub one : OneAnswer
   pub wrong : WrongReaders
   pub cases : Cases
+  -- and of the bank's advice
+  pub advices : AdviceCases

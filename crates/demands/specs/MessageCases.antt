@@ -5,23 +5,26 @@ use mathlib.Core.List.{List, [], _∷_, _++_}
 use Rattle.service.specs.Service.{plainService}
 use Rattle.chart.specs.Chart.{Reading}
 use Rattle.chart.specs.Tags.{tagsOf}
-use Rattle.chart.specs.Paymul.{chart}
+use Rattle.kinds.specs.declared.Kind.{Kind}
+use Rattle.kinds.specs.declared.Kind.the-variants.{Paymul}
+use Rattle.message.specs.Kinds.{chartFor}
 use Rattle.values.specs.Text.{text}
-use Rattle.report.specs.Reported.{Room, Applies, Lowest}
+use Rattle.report.specs.Reported.{Room, Of, Applies, Lowest}
 
 -- lists that are long enough
 abbrev pub room : Room
 room = record { rows = 30; starts = 30; totals = 2 }
 
--- the message is placed, and no number applies to it
-pub record Holds (m : List ℕ) : Type 0 where
+-- the message is of the kind and placed, and in lists of this room no number applies to it
+pub record Holds (k : Kind) (x : Room) (m : List ℕ) : Type 0 where
+  pub of : Of k plainService m
   pub rows : List ℕ
-  pub reading : Reading chart (tagsOf plainService m) rows
-  pub free : (n s : ℕ) → Applies plainService m room n s → ⊥
+  pub reading : Reading (chartFor k) (tagsOf plainService m) rows
+  pub free : (n s : ℕ) → Applies plainService m x n s → ⊥
 
 -- the number that is given for the message, and the segment
-abbrev pub Gives : List ℕ → ℕ → ℕ → Type 0
-Gives m n s = Lowest plainService m room n s
+abbrev pub Gives : Room → List ℕ → ℕ → ℕ → Type 0
+Gives x m n s = Lowest plainService m x n s
 
 -- segments one after the other
 unfoldable pub joined : List String → List ℕ
@@ -36,7 +39,7 @@ exchange moa =
 
 -- "`CUX+2:EUR+3:USD'` with 57 under SG5 in EUR holds; under USD it gives 25": at the CUX
 abbrev pub Row9 : Type 0
-Row9 = Holds (exchange "MOA+57:100:EUR'") × Gives (exchange "MOA+57:100:USD'") 25 8
+Row9 = Holds Paymul room (exchange "MOA+57:100:EUR'") × Gives room (exchange "MOA+57:100:USD'") 25 8
 
 -- OR unnamed, with this NAD of level B
 abbrev pub unnamed : String → List ℕ
@@ -46,7 +49,7 @@ unnamed nad =
 
 -- "OR unnamed with PL holds; OR unnamed with OY gives 27": at the LIN
 abbrev pub Row10 : Type 0
-Row10 = Holds (unnamed "NAD+PL+++A'") × Gives (unnamed "NAD+OY+++A'") 27 4
+Row10 = Holds Paymul room (unnamed "NAD+PL+++A'") × Gives room (unnamed "NAD+OY+++A'") 27 4
 
 -- SEQ 1 and 2, and then this SEQ under a new LIN
 abbrev pub counted : String → List ℕ
@@ -59,4 +62,4 @@ counted seq =
 
 -- "SEQ 1, 2 and then 1 under a new LIN holds; 3 there gives 21": at that SEQ
 abbrev pub Row11 : Type 0
-Row11 = Holds (counted "SEQ++1'") × Gives (counted "SEQ++3'") 21 22
+Row11 = Holds Paymul room (counted "SEQ++1'") × Gives room (counted "SEQ++3'") 21 22

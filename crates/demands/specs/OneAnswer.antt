@@ -33,8 +33,9 @@ use Rattle.chart.specs.forms.Next.{nextRow}
 use Rattle.tally.specs.Tallied.{tallyOf}
 use Rattle.tally.specs.Places.{passed}
 use Rattle.message.specs.Segs.{segAt}
-use Rattle.rules.specs.Placed.{placedOn}
+use Rattle.message.specs.Placed.{placedOn}
 use Rattle.message.specs.Rules.{worth, paymulOf}
+use Rattle.message.specs.Advices.{debmulOf}
 use Rattle.message.specs.Faults.{tellAll, leastOf}
 use Rattle.numbering.specs.declared.Numbering.{Numbering}
 use Rattle.numbering.specs.forms.Steps.{numberingStart, numberingStep}
@@ -45,9 +46,12 @@ use Rattle.parties.specs.forms.Steps.{partiesStart, partiesStep, partiesClose}
 use Rattle.details.specs.declared.Details.{Details}
 use Rattle.details.specs.forms.Steps.{detailsStart, detailsStep, detailsClose}
 use Rattle.trailer.specs.declared.Trailer.{Trailer}
-use Rattle.trailer.specs.forms.Steps.{trailerStart, trailerStep}
+use Rattle.trailer.specs.forms.Steps.{trailerStart, taken}
 use Rattle.listing.specs.Listing.{listsAfter}
-use Rattle.chart.specs.Paymul.{PAYMUL}
+use Rattle.paymul.specs.Table.{PAYMUL}
+use Rattle.debmul.specs.Table.{DEBMUL}
+use Rattle.kinds.specs.declared.Kind.{Kind}
+use Rattle.kinds.specs.Kinds.{tableOf}
 use Rattle.report.specs.declared.Report.{Report}
 use Rattle.report.specs.Reported.{Reported}
 use Rattle.walk.specs.Walks.{Walks}
@@ -129,10 +133,12 @@ pub record OneAnswer : Type 0 where
   pub truth-isnt : (a : Bool) → OnlyIs (not a)
   -- paymul
   pub paymul-chart : OnlyIs PAYMUL
+  -- debmul
+  pub debmul-chart : OnlyIs DEBMUL
   -- chart
   pub chart-cursor-at : (m : List ℕ) (at : ℕ) (v : Service) → Only (CursorIs v m at)
   pub chart-step : (m : List ℕ) (v : Service) (c : Cursor) → Only (Onwards v m c)
-  pub chart-place : (m : List ℕ) (v : Service) → Only (Answers PAYMUL v m)
+  pub chart-place : (m : List ℕ) (v : Service) (kind : Kind) → Only (Answers (tableOf kind) v m)
   pub chart-next-row : (t : List (List ℕ)) (prev tag : ℕ) → OnlyIs (nextRow t prev tag)
   -- tally
   pub tally-tally-of : (m : List ℕ) (v : Service) → OnlyIs (tallyOf v m (segmentsFrom v m 0))
@@ -157,9 +163,11 @@ pub record OneAnswer : Type 0 where
   pub details-close : (st : Details) → OnlyIs (detailsClose st)
   -- trailer
   pub trailer-start : OnlyIs trailerStart
-  pub trailer-step : (st : Trailer) (m : List ℕ) (v : Service) (at nth row segments : ℕ) → OnlyIs (trailerStep segments (valueIn v 0 m 1 0) st (segAt v m nth row at))
+  pub trailer-step : (st : Trailer) (m : List ℕ) (v : Service) (at nth segments : ℕ) → OnlyIs (taken segments (valueIn v 0 m 1 0) st (valueIn v at m) nth)
   -- rules
   pub rules-judge : (m : List ℕ) (v : Service) (t : List (List ℕ)) (segments orders : ℕ) → OnlyIs (leastOf (tellAll (paymulOf segments orders (placedOn t v m))))
+  -- advice
+  pub advice-judge : (m : List ℕ) (v : Service) (t : List (List ℕ)) (segments : ℕ) → OnlyIs (leastOf (tellAll (debmulOf segments (placedOn t v m))))
   -- listing: what the lists are after it
   pub listing-put-lists : (m : List ℕ) (v : Service) (t : List (List ℕ)) (segments orders : ℕ) (x : Lists) → OnlyIs (listsAfter t v m segments orders x)
   -- report

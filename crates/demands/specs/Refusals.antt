@@ -47,7 +47,7 @@ byClosing = 1 ∷ 2 ∷ 3 ∷ 4 ∷ 5 ∷ 6 ∷ 7 ∷ []
 
 -- of a message: those at a segment that its rule names
 abbrev pub bySegment : List ℕ
-bySegment = 16 ∷ 17 ∷ 18 ∷ 20 ∷ 21 ∷ 22 ∷ 23 ∷ 24 ∷ 25 ∷ 26 ∷ 27 ∷ 28 ∷ 29 ∷ []
+bySegment = 16 ∷ 17 ∷ 18 ∷ 20 ∷ 21 ∷ 22 ∷ 23 ∷ 24 ∷ 25 ∷ 26 ∷ 27 ∷ 28 ∷ 29 ∷ 30 ∷ 31 ∷ []
 
 -- ---- the table's last column
 -- "0, 0": one of these numbers, and no place
@@ -71,7 +71,7 @@ pub data Tabled (v : Service) (m : List ℕ) (f : Refusal) : Type 0 where
   head : among (f .number) (11 ∷ 12 ∷ []) ≡ true → f .segment ≡ 1 → f .offset ≡ 0 → Tabled v m f
   -- 13: "the 10,000th"
   last : f .number ≡ 13 → SegmentOf v m f 9999 → f .offset ≡ startAt v m 9999 → Tabled v m f
-  -- 16 to 18, 20 to 29: the segment that the row names, and where it begins
+  -- 16 to 18, 20 to 31: the segment that the row names, and where it begins
   segment : (k : ℕ) → among (f .number) bySegment ≡ true → SegmentOf v m f k → f .offset ≡ startAt v m k → Tabled v m f
 
 -- the same, read by the service characters of an interchange that begins with h

@@ -1,4 +1,5 @@
 pub mod AcceptingLaws
+pub mod AdviceCasesLaws
 pub mod AnsweringLaws
 pub mod CasesLaws
 pub mod DamageWhole

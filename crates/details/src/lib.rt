@@ -237,13 +237,13 @@ fn inside(st: Details, m: &[u8], v: Service, at: usize, nth: usize, row: usize) 
 {
     let o = st.order;
     let g = st.group;
-    if row == chart::ORDER_PRC {
+    if row == paymul::ORDER_PRC {
         return with_order(st, with_common(o));
     }
-    if row == chart::PAYMENT_FTX {
+    if row == paymul::PAYMENT_FTX {
         return grown(st, true, g.documents);
     }
-    if row == chart::PAYMENT_DOC {
+    if row == paymul::PAYMENT_DOC {
         return grown(st, g.text, true);
     }
     st
@@ -254,13 +254,13 @@ pub fn step(st: Details, m: &[u8], v: Service, at: usize, nth: usize, row: usize
     ensures { λ r. ⌜ r ≡ detailsStep st (segAt v (now (m .entry)) nth row at) ⌝ }
 {
     let o = st.order;
-    if row == chart::LIN {
+    if row == paymul::LIN {
         return next_order(st, true);
     }
-    if row == chart::SEQ {
+    if row == paymul::SEQ {
         return next_group(st, o, no_group());
     }
-    if row == chart::PAYMENT_PRC {
+    if row == paymul::PAYMENT_PRC {
         return opened(st, values::code_in(m, at, v, 1, 0), nth);
     }
     inside(st, m, v, at, nth, row)

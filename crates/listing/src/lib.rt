@@ -32,7 +32,7 @@ fn put_total(
     requires { ⌜ orders ≤ length (now totals) ⌝ }
     ensures { λ r. ⌜ TotalPut v (now (m .entry)) at row n orders (now (totals .entry)) (now (totals .exit)) r ⌝ }
 {
-    if row == chart::ORDER_MOA {
+    if row == paymul::ORDER_MOA {
         if n < orders {
             totals[n] = amounts::worth_at(m, v, at);
             return n + 1;

@@ -10,7 +10,7 @@ use Rattle.values.specs.declared.Amount.{Amount}
 use Rattle.values.specs.declared.Amount.the-variants.{Of, Not}
 use Rattle.values.specs.forms.Values.{codeOf, numberOf, isNumber, amountOf, isCapitals}
 use Rattle.values.specs.Text.{sameList, says}
-use Rattle.message.specs.Segs.{Seg, Stretch, those, each, Name, LIN, MOA5, CUX5, FII6, NAD7, PRC10, SEQ, MOA11, FII12, NAD13, PRC16, FTX16, DOC17, CNT, UNT, is, orders, payments, amounts, details}
+use Rattle.message.specs.Segs.{Seg, Stretch, those, each, onRow, rowOf, Name, LIN, MOA5, CUX5, FII6, NAD7, PRC10, SEQ, MOA11, FII12, NAD13, PRC16, FTX16, DOC17, CNT, UNT, is, orders, payments, amounts, details}
 
 -- ---- words
 -- "Numbers are digits without leading zeros": a value writes the number (`writes-exactly` of TextLaws: exactly if NumberIs)
@@ -47,10 +47,10 @@ unfoldable pub failing : (Seg → Bool) → List Seg → List ℕ
 failing t [] = []
 failing t (s ∷ ss) = unless (t s) s ++ failing t ss
 
--- ---- 17, 18, at the UNT
+-- ---- 17, 18, at the UNT, whose row on the chart is told
 -- 17: "UNT count not the segments, UNH and UNT included", of which there are n
-unfoldable pub rule17 : ℕ → List Seg → List ℕ
-rule17 n m = failing (λ s. writes (s .value 1 0) n) (those (is UNT) m)
+unfoldable pub rule17 : ℕ → ℕ → List Seg → List ℕ
+rule17 unt n m = failing (λ s. writes (s .value 1 0) n) (those (onRow unt) m)
 
 -- the reference of the UNH, which is the first segment
 abbrev pub reference : List Seg → List ℕ
@@ -58,8 +58,8 @@ reference [] = []
 reference (s ∷ ss) = s .value 1 0
 
 -- 18: "UNT reference not UNH's"
-unfoldable pub rule18 : List Seg → List ℕ
-rule18 m = failing (λ s. sameList (s .value 2 0) (reference m)) (those (is UNT) m)
+unfoldable pub rule18 : ℕ → List Seg → List ℕ
+rule18 unt m = failing (λ s. sameList (s .value 2 0) (reference m)) (those (onRow unt) m)
 
 -- ---- 20, 21
 -- the segments whose element e does not write k, k + 1, .. in turn
@@ -67,9 +67,9 @@ unfoldable pub misnumbered : ℕ → ℕ → List Seg → List ℕ
 misnumbered e k [] = []
 misnumbered e k (s ∷ ss) = unless (writes (s .value e 0) k) s ++ misnumbered e (suc k) ss
 
--- 20: "LIN numbers run 1, 2, 3 over the message."
-unfoldable pub rule20 : List Seg → List ℕ
-rule20 m = misnumbered 1 1 (those (is LIN) m)
+-- 20: "LIN numbers run 1, 2, 3 over the message.", by the LIN's row on the chart
+unfoldable pub rule20 : ℕ → List Seg → List ℕ
+rule20 lin m = misnumbered 1 1 (those (onRow lin) m)
 
 -- 21: "SEQ numbers (second element, first component) run 1, 2, 3 and start at 1 again under each LIN."
 abbrev pub fault21 : Stretch → List ℕ
@@ -204,11 +204,8 @@ rule29 n m = failing (λ s. writes (s .value 1 1) n) (those (λ s. is CNT s && s
 -- the rules of a PAYMUL message of k segments, n of them LIN, with their numbers, in the order in which refusals are given
 abbrev pub paymulOf : ℕ → ℕ → List Seg → List (ℕ × List ℕ)
 paymulOf k n m =
-    (17, rule17 k m) ∷ (18, rule18 m) ∷ (20, rule20 m) ∷ (21, rule21 m) ∷ (22, rule22 m) ∷ (23, rule23 m) ∷ (24, rule24 m) ∷ (25, rule25 m)
+    (17, rule17 (rowOf UNT) k m) ∷ (18, rule18 (rowOf UNT) m) ∷ (20, rule20 (rowOf LIN) m) ∷ (21, rule21 m) ∷ (22, rule22 m) ∷ (23, rule23 m) ∷ (24, rule24 m) ∷ (25, rule25 m)
     ∷ (26, rule26 m) ∷ (27, rule27 m) ∷ (28, rule28 m) ∷ (29, rule29 n m) ∷ []
-
-abbrev pub paymul : List Seg → List (ℕ × List ℕ)
-paymul m = paymulOf (length m) (count (is LIN) m) m
 
 -- ---- "the total of every order": the amount of its SG5 MOA
 abbrev pub totalsOf : List Seg → List ℕ

@@ -54,7 +54,7 @@ unfoldable pub each : (Stretch → List ℕ) → List Stretch → List ℕ
 each f [] = []
 each f (t ∷ ts) = f t ++ each f ts
 
--- the rows that rules speak of, by tag and group: MOA5 is the MOA of SG5
+-- the rows of PAYMUL that rules speak of, by tag and group: MOA5 is the MOA of SG5
 pub data Name : Type 0 where
   UNH LIN MOA5 CUX5 FII6 NAD7 PRC10 SEQ MOA11 FII12 NAD13 PRC16 FTX16 DOC17 CNT UNT : Name
 
@@ -96,8 +96,12 @@ rowOf DOC17 = 79
 rowOf CNT = 108
 rowOf UNT = 112
 
+-- whether a segment stands at a row of its chart
+abbrev pub onRow : ℕ → Seg → Bool
+onRow r s = eqb (s .row) r
+
 abbrev pub is : Name → Seg → Bool
-is n s = eqb (s .row) (rowOf n)
+is n = onRow (rowOf n)
 
 -- an order: from its LIN to the next
 abbrev pub orders : List Seg → List Stretch

@@ -160,13 +160,13 @@ pub fn step(
 ) -> Numbering
     ensures { λ r. ⌜ r ≡ numberingStep orders st (segAt v (now (m .entry)) nth row at) ⌝ }
 {
-    if row == chart::LIN {
+    if row == paymul::LIN {
         return line(st, m, v, at, nth);
     }
-    if row == chart::SEQ {
+    if row == paymul::SEQ {
         return sequence(st, m, v, at, nth);
     }
-    if row == chart::CNT {
+    if row == paymul::CNT {
         return control(st, m, v, at, nth, orders);
     }
     st

@@ -318,16 +318,16 @@ fn inside(st: Parties, m: &[u8], v: Service, at: usize, nth: usize, row: usize) 
 {
     let o = st.order;
     let p = st.payment;
-    if row == chart::ORDER_FII {
+    if row == paymul::ORDER_FII {
         return with_order(st, order_fii(o, m, v, at));
     }
-    if row == chart::ORDER_NAD {
+    if row == paymul::ORDER_NAD {
         return with_order(st, order_nad(o, m, v, at));
     }
-    if row == chart::PAYMENT_FII {
+    if row == paymul::PAYMENT_FII {
         return with_payment(st, payment_fii(p, m, v, at));
     }
-    if row == chart::PAYMENT_NAD {
+    if row == paymul::PAYMENT_NAD {
         return with_payment(st, payment_nad(p, m, v, at));
     }
     st
@@ -337,10 +337,10 @@ fn inside(st: Parties, m: &[u8], v: Service, at: usize, nth: usize, row: usize) 
 pub fn step(st: Parties, m: &[u8], v: Service, at: usize, nth: usize, row: usize) -> Parties
     ensures { λ r. ⌜ r ≡ partiesStep st (segAt v (now (m .entry)) nth row at) ⌝ }
 {
-    if row == chart::LIN {
+    if row == paymul::LIN {
         return next_order(st, First::At(nth));
     }
-    if row == chart::SEQ {
+    if row == paymul::SEQ {
         return next_payment(st, First::At(nth));
     }
     inside(st, m, v, at, nth, row)

@@ -1,8 +1,29 @@
 // The PAYMUL chart: a constant table, one row per segment and group.
 ghost use mathlib.Core.Path.{_≡_};
 ghost use Rattle.paymul.specs.Table.{PAYMUL};
+use table::A;
+use table::B;
+use table::C;
 use table::COLUMNS;
+use table::D;
+use table::E;
+use table::F;
+use table::G;
+use table::H;
+use table::I;
+use table::J;
+use table::L;
+use table::M;
+use table::N;
+use table::O;
 use table::OUTSIDE;
+use table::P;
+use table::Q;
+use table::R;
+use table::S;
+use table::T;
+use table::U;
+use table::X;
 
 pub const ROWS: usize = 113;
 
@@ -35,48 +56,7 @@ pub const PAYMENT_DOC: usize = 79;
 
 pub const CNT: usize = 108;
 
-// The letters of tags and statuses.
-const A: u8 = 65;
-
-const B: u8 = 66;
-
-const C: u8 = 67;
-
-const D: u8 = 68;
-
-const E: u8 = 69;
-
-const F: u8 = 70;
-
-const G: u8 = 71;
-
-const H: u8 = 72;
-
-const I: u8 = 73;
-
-const J: u8 = 74;
-
-const L: u8 = 76;
-
-const M: u8 = 77;
-
-const N: u8 = 78;
-
-const O: u8 = 79;
-
-const P: u8 = 80;
-
-const Q: u8 = 81;
-
-const R: u8 = 82;
-
-const S: u8 = 83;
-
-const T: u8 = 84;
-
-const U: u8 = 85;
-
-const X: u8 = 88;
+pub const UNT: usize = 112;
 
 // The rows are those of the guide's section 2.2, numbered from 1; row 0 is the message itself, a group opened by its UNH.
 const CHART: [[u8; COLUMNS]; ROWS] = [

@@ -20,9 +20,10 @@ use Rattle.lent.specs.Lists.{Lists, lists}
 use Rattle.lent.specs.Over.{over}
 use Rattle.chart.specs.Chart.{Reading, FirstMisfit}
 use Rattle.chart.specs.Tags.{tagsOf}
-use Rattle.chart.specs.Paymul.{chart}
-use Rattle.message.specs.Segs.{Seg, segsOf, LIN, SEQ, is}
-use Rattle.message.specs.Rules.{count, paymul, totalsOf}
+use Rattle.kinds.specs.declared.Kind.{Kind}
+use Rattle.kinds.specs.Kinds.{anyKind}
+use Rattle.message.specs.Segs.{Seg, segsOf}
+use Rattle.message.specs.Kinds.{means, chartFor, rulesFor, orderCount, paymentCount, totalsFor}
 use Rattle.message.specs.Faults.{rank, Told, told, tellAll}
 use Rattle.report.specs.declared.Counts.{Counts}
 use Rattle.report.specs.declared.Report.{Report}
@@ -57,17 +58,26 @@ unfoldable pub rule10 : ℕ → List Raw → List ℕ
 rule10 n [] = []
 rule10 n (s ∷ l) = toldUnless (s .usual) n ++ rule10 (suc n) l
 
--- 12: "UNH reference not 1 to 14 bytes, or type, version, release, agency not PAYMUL, D, 96A, UN"
+-- "the type in its UNH", which is the first segment, is that of the kind
+unfoldable pub isKind : Kind → List Raw → Bool
+isKind k [] = false
+isKind k (s ∷ l) = says (s .value 2 0) (means k .type)
+
+-- 12: "UNH reference not 1 to 14 bytes, or type, version, release, agency not" that of a kind, "D, 96A, UN"; "number 12 means neither type"
 unfoldable pub headed : List Raw → Bool
 headed [] = false
 headed (s ∷ l) =
     says (s .value 0 0) "UNH" && isReference (length (s .value 1 0))
-    && says (s .value 2 0) "PAYMUL" && says (s .value 2 1) "D" && says (s .value 2 2) "96A" && says (s .value 2 3) "UN"
+    && anyKind (λ k. isKind k (s ∷ l)) && says (s .value 2 1) "D" && says (s .value 2 2) "96A" && says (s .value 2 3) "UN"
 
 -- the LIN tags among segments: "its tag is the first component's value"
 unfoldable pub lines : List Raw → ℕ
 lines [] = 0
 lines (s ∷ l) = if (says (s .value 0 0) "LIN") (suc (lines l)) (lines l)
+
+-- the totals that are asked for: as many as LIN tags, or none of a kind of which "no totals are written and 14 asks no list of them"
+unfoldable pub asked : List Raw → ℕ
+asked l = if (anyKind (λ k. isKind k l && means k .totals)) (lines l) 0
 
 -- how long lent lists are
 pub record Room : Type 0 where
@@ -80,7 +90,7 @@ roomOf x = record { rows = length (x .rows); starts = length (x .starts); totals
 
 -- 14: "a list shorter than its need (segments; segments; LIN tags)"
 unfoldable pub fits : List Raw → Room → Bool
-fits l x = leb (length l) (x .rows) && leb (length l) (x .starts) && leb (lines l) (x .totals)
+fits l x = leb (length l) (x .rows) && leb (length l) (x .starts) && leb (asked l) (x .totals)
 
 -- 1: "over 1,048,576 bytes"; 2: "service characters break the rule"; 11: "unclosed"; 13: "over 9,999 segments": the 10,000th
 unfoldable pub early : Bare → Room → List (ℕ × List ℕ)
@@ -89,6 +99,10 @@ early b x =
     ∷ (12, toldUnless (headed (b .segments)) 1) ∷ (13, toldUnless (leb (length (b .segments)) 9999) 10000) ∷ (14, toldUnless (fits (b .segments) x) 0) ∷ []
 
 -- ---- all that applies
+-- a message of the kind
+abbrev pub Of : Kind → Service → List ℕ → Type 0
+Of k v m = isKind k (bareOf v m .segments) ≡ true
+
 pub data In (a : Told) : List Told → Type 0 where
   here : {l : List Told} → In a (a ∷ l)
   there : {b : Told} {l : List Told} → In a l → In a (b ∷ l)
@@ -96,9 +110,9 @@ pub data In (a : Told) : List Told → Type 0 where
 pub data Applies (v : Service) (m : List ℕ) (x : Room) (n s : ℕ) : Type 0 where
   soon : In (told n s) (tellAll (early (bareOf v m) x)) → Applies v m x n s
   -- 16: "no placement": "the first segment such that with the segments up to and including it no message allowed by the chart can begin"
-  misfit : (j : ℕ) → FirstMisfit chart (tagsOf v m) j → n ≡ 16 → s ≡ j + 1 → Applies v m x n s
-  -- 17, 18, 20 to 29, of the reading
-  late : (rows : List ℕ) → Reading chart (tagsOf v m) rows → In (told n s) (tellAll (paymul (segsOf v m rows))) → Applies v m x n s
+  misfit : (k : Kind) → Of k v m → (j : ℕ) → FirstMisfit (chartFor k) (tagsOf v m) j → n ≡ 16 → s ≡ j + 1 → Applies v m x n s
+  -- 17 to 31, by the rules of the kind, of the reading
+  late : (k : Kind) → Of k v m → (rows : List ℕ) → Reading (chartFor k) (tagsOf v m) rows → In (told n s) (tellAll (rulesFor k (segsOf v m rows))) → Applies v m x n s
 
 -- "The lowest number that applies is given, and under it the first segment"
 pub record Lowest (v : Service) (m : List ℕ) (x : Room) (n s : ℕ) : Type 0 where
@@ -111,15 +125,15 @@ offsetOf v m n zero = 0
 offsetOf v m n (suc s) = if (eqb n 10) (getD (strangeIn v m (startAt v m s)) 0 0) (startAt v m s)
 
 -- "counts of segments, orders (LIN) and payments (SEQ)"
-abbrev pub countsOf : List Seg → Counts
-countsOf m = record { segments = length m; orders = count (is LIN) m; payments = count (is SEQ) m }
+abbrev pub countsOf : Kind → List Seg → Counts
+countsOf k m = record { segments = length m; orders = orderCount k m; payments = paymentCount k m }
 
 -- "the row and the start of every segment (from the UNH's first byte) and the total of every order; entries beyond these keep their content"
-abbrev pub filled : Service → List ℕ → List ℕ → Lists → Lists
-filled v m rows x = lists (over rows (x .rows)) (over (startsOf v m) (x .starts)) (over (totalsOf (segsOf v m rows)) (x .totals))
+abbrev pub filled : Kind → Service → List ℕ → List ℕ → Lists → Lists
+filled k v m rows x = lists (over rows (x .rows)) (over (startsOf v m) (x .starts)) (over (totalsFor k (segsOf v m rows)) (x .totals))
 
 -- the lists x before a check and x′ after it; "A refusal .. changes no list"
 pub data Reported (v : Service) (m : List ℕ) (x x′ : Lists) : Report → Type 0 where
-  accepted : (c : Counts) (rows : List ℕ) → Reading chart (tagsOf v m) rows → ((n k : ℕ) → Applies v m (roomOf x) n k → ⊥) → c ≡ countsOf (segsOf v m rows)
-      → x′ ≡ filled v m rows x → Reported v m x x′ (Accepted c)
+  accepted : (c : Counts) (k : Kind) → Of k v m → (rows : List ℕ) → Reading (chartFor k) (tagsOf v m) rows → ((n s : ℕ) → Applies v m (roomOf x) n s → ⊥)
+      → c ≡ countsOf k (segsOf v m rows) → x′ ≡ filled k v m rows x → Reported v m x x′ (Accepted c)
   refused : (f : Refusal) → Lowest v m (roomOf x) (f .number) (f .segment) → f .offset ≡ offsetOf v m (f .number) (f .segment) → x′ ≡ x → Reported v m x x′ (Refused f)

@@ -6,6 +6,7 @@ pub mod CountLaws
 pub mod EarlyLaws
 pub mod FewLaws
 pub mod FillLaws
+pub mod KindLaws
 pub mod LateLaws
 pub mod LeastLaws
 pub mod PieceLaws

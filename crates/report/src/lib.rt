@@ -6,15 +6,19 @@ ghost use lib.Dec.{leb};
 ghost use Rattle.lent.specs.Lists.{lists};
 ghost use lib.ListN.{length};
 ghost use Rattle.service.specs.Service.{fitting};
-ghost use Rattle.chart.specs.Paymul.{PAYMUL};
-ghost use Rattle.chart.specs.Answer.{Answers};
+ghost use Rattle.kinds.specs.declared.Kind.the-variants.{Paymul, Debmul};
+ghost use Rattle.kinds.specs.Kinds.{tableOf};
+ghost use Rattle.message.specs.Kinds.{means};
+ghost use Rattle.message.specs.Placed.{placedOn};
+ghost use Rattle.message.specs.Faults.{tellAll, leastOf};
 ghost use Rattle.listing.specs.Listing.{listsAfter};
 ghost use Rattle.report.specs.Reported.{Reported};
-ghost use Rattle.report.specs.forms.Checks.{endsWith, typed, headedAt, outright, earlyFault, misfitAt, Misfit, Late, byteRefusal, startBy, refusalAt};
+ghost use Rattle.report.specs.forms.Checks.{endsWith, kindAt, typed, headedAt, outright, earlyFault, Begun, Sorted, misfitAt, Misfit, Late, listedOrders, byteRefusal, startBy, refusalAt};
 use chart::Placed;
 use faults::Fault;
 use faults::First;
 use interchange::Refusal;
+use kinds::Kind;
 use segments::Segment;
 use service::Service;
 use table::COLUMNS;
@@ -62,15 +66,26 @@ fn is_closed(m: &[u8], v: Service, unt: First) -> bool
     }
 }
 
-// Whether the UNH's type is PAYMUL, D, 96A, UN, if it is a UNH with a reference.
-fn is_paymul(m: &[u8], v: Service, unh: bool) -> bool
+// The kind whose type the UNH names; PAYMUL where it names none.
+fn kind_of(m: &[u8], v: Service) -> Kind
+    ensures { λ r. ⌜ r ≡ kindAt v (now (m .entry)) ⌝ }
+{
+    if values::code_in(m, 0, v, 2, 0) == codes::DEBMUL {
+        return Kind::Debmul;
+    }
+    Kind::Paymul
+}
+
+// Whether the UNH's type is PAYMUL or DEBMUL, D, 96A, UN, if it is a UNH with a reference.
+fn is_typed(m: &[u8], v: Service, unh: bool) -> bool
     ensures { λ r. ⌜ r ≡ typed v (now (m .entry)) unh ⌝ }
 {
     let name = values::code_in(m, 0, v, 2, 0);
     let version = values::code_in(m, 0, v, 2, 1);
     let release = values::code_in(m, 0, v, 2, 2);
     let agency = values::code_in(m, 0, v, 2, 3);
-    let a = truth::both(unh, name == codes::PAYMUL);
+    let known = truth::either(name == codes::PAYMUL, name == codes::DEBMUL);
+    let a = truth::both(unh, known);
     let b = truth::both(a, version == codes::D);
     let c = truth::both(b, release == codes::NINETY_SIX_A);
     truth::both(c, agency == codes::UN)
@@ -83,7 +98,7 @@ fn has_header(m: &[u8], v: Service) -> bool
     let tag = values::code_at(m, 0, v);
     let n = values::length_in(m, 0, v, 1, 0);
     let unh = truth::both(tag == codes::UNH, interchange::is_reference(n));
-    is_paymul(m, v, unh)
+    is_typed(m, v, unh)
 }
 
 // The faults that come before the lists, by number and segment: 11 to 13.
@@ -117,14 +132,42 @@ fn misfit_at(m: &[u8], v: Service, at: usize) -> Fault
     Fault::At(16, ordinal(tally::segments_before(m, v, at)))
 }
 
-// The faults that come after the lists, by number and segment: 16 to 29. `misfit` is what placing the message found.
-fn late_fault(m: &[u8], v: Service, chart: &[[u8; COLUMNS]], misfit: Fault, t: Tally) -> Fault
-    requires { ⌜ now chart ≡ PAYMUL ⌝ }
-    requires { ⌜ Misfit v (now m) misfit ⌝ }
-    ensures { λ r. ⌜ Late v (now (m .entry)) (t .segments) (t .orders) r ⌝ }
+// What placing a message on the chart of a kind finds: nothing, or 16.
+fn misfit_of(m: &[u8], v: Service, kind: Kind) -> Fault
+    ensures { λ r. ⌜ Misfit kind v (now (m .entry)) r ⌝ }
+{
+    let w = chart::place(m, v, kind);
+    match w {
+        Placed::Whole => Fault::None,
+        Placed::Stuck(at) => misfit_at(m, v, at),
+    }
+}
+
+// The rules of a kind on a message with a tally, its rows on a table.
+fn judge(m: &[u8], v: Service, kind: Kind, chart: &[[u8; COLUMNS]], t: Tally) -> Fault
+    ensures { λ r. ⌜ r ≡ leastOf (tellAll (means kind .rules (t .segments) (t .orders) (placedOn (now (chart .entry)) v (now (m .entry))))) ⌝ }
+{
+    match kind {
+        Kind::Paymul => rules::judge(m, v, chart, t.segments as u64, t.orders as u64),
+        Kind::Debmul => advice::judge(m, v, chart, t.segments as u64),
+    }
+}
+
+// The faults that come after the lists, by number and segment: 16 to 31. `misfit` is what placing the message found.
+fn late_fault(
+    m: &[u8],
+    v: Service,
+    kind: Kind,
+    chart: &[[u8; COLUMNS]],
+    misfit: Fault,
+    t: Tally,
+) -> Fault
+    requires { ⌜ Begun kind (now chart) v (now m) ⌝ }
+    requires { ⌜ Misfit kind v (now m) misfit ⌝ }
+    ensures { λ r. ⌜ Late kind v (now (m .entry)) (t .segments) (t .orders) r ⌝ }
 {
     match misfit {
-        Fault::None => rules::judge(m, v, chart, t.segments as u64, t.orders as u64),
+        Fault::None => judge(m, v, kind, chart, t),
         Fault::At(_, _) => misfit,
     }
 }
@@ -161,43 +204,63 @@ fn refusal_at(m: &[u8], v: Service, number: u32, segment: usize) -> Refusal
     }
 }
 
-// Whether the lists are long enough.
-fn fits(t: Tally, rows: usize, starts: usize, totals: usize) -> bool
-    ensures { λ r. ⌜ r ≡ leb (t .segments) rows && leb (t .segments) starts && leb (t .orders) totals ⌝ }
+// How many totals are written of a message of a kind with so many orders: an advice has none.
+fn totals_of(kind: Kind, orders: usize) -> usize
+    ensures { λ r. ⌜ r ≡ listedOrders kind orders ⌝ }
 {
-    let segments = truth::both(t.segments <= rows, t.segments <= starts);
-    truth::both(segments, t.orders <= totals)
+    match kind {
+        Kind::Paymul => orders,
+        Kind::Debmul => 0,
+    }
 }
 
-// The lists of a message with a tally, its rows on the chart.
+// Whether the lists are long enough for a message of a kind.
+fn fits(kind: Kind, t: Tally, rows: usize, starts: usize, totals: usize) -> bool
+    ensures { λ r. ⌜ r ≡ leb (t .segments) rows && leb (t .segments) starts && leb (listedOrders kind (t .orders)) totals ⌝ }
+{
+    let segments = truth::both(t.segments <= rows, t.segments <= starts);
+    truth::both(segments, totals_of(kind, t.orders) <= totals)
+}
+
+// The lists of a message of a kind, with a tally, its rows on the chart.
 fn put_all(
     m: &[u8],
     v: Service,
+    kind: Kind,
     chart: &[[u8; COLUMNS]],
     t: Tally,
     rows: &mut [u16],
     starts: &mut [u32],
     totals: &mut [u64],
 )
-    requires { ⌜ now chart ≡ PAYMUL ⌝ }
-    ensures { λ _. ⌜ lists (now (rows .exit)) (now (starts .exit)) (now (totals .exit)) ≡ listsAfter PAYMUL v (now (m .entry)) (t .segments) (t .orders) (lists (now (rows .entry)) (now (starts .entry)) (now (totals .entry))) ⌝ }
+    requires { ⌜ Begun kind (now chart) v (now m) ⌝ }
+    ensures { λ _. ⌜ lists (now (rows .exit)) (now (starts .exit)) (now (totals .exit)) ≡ listsAfter (tableOf kind) v (now (m .entry)) (t .segments) (listedOrders kind (t .orders)) (lists (now (rows .entry)) (now (starts .entry)) (now (totals .entry))) ⌝ }
 {
-    listing::put_lists(m, v, chart, t.segments, t.orders, rows, starts, totals);
+    listing::put_lists(
+        m,
+        v,
+        chart,
+        t.segments,
+        totals_of(kind, t.orders),
+        rows,
+        starts,
+        totals,
+    );
 }
 
 // The report of a message of at most so many bytes, with fit characters, by what placing it found.
 fn report_with(
     m: &[u8],
     v: Service,
+    kind: Kind,
     chart: &[[u8; COLUMNS]],
     misfit: Fault,
     rows: &mut [u16],
     starts: &mut [u32],
     totals: &mut [u64],
 ) -> Report
-    requires { ⌜ 0 ≡ outright (leb (length (now m)) 1048576) (fitting v) ⌝ }
-    requires { ⌜ now chart ≡ PAYMUL ⌝ }
-    requires { ⌜ Misfit v (now m) misfit ⌝ }
+    requires { ⌜ Begun kind (now chart) v (now m) ⌝ }
+    requires { ⌜ Misfit kind v (now m) misfit ⌝ }
     ensures { λ r. ⌜ Reported v (now (m .entry)) (lists (now (rows .entry)) (now (starts .entry)) (now (totals .entry))) (lists (now (rows .exit)) (now (starts .exit)) (now (totals .exit))) r ⌝ }
 {
     let t = tally::tally_of(m, v);
@@ -209,12 +272,12 @@ fn report_with(
     if let Fault::At(number, segment) = early {
         return Report::Refused(refusal_at(m, v, number, segment));
     }
-    if fits(t, rows.len(), starts.len(), totals.len()) {
-        let late = late_fault(m, v, chart, misfit, t);
+    if fits(kind, t, rows.len(), starts.len(), totals.len()) {
+        let late = late_fault(m, v, kind, chart, misfit, t);
         if let Fault::At(number, segment) = late {
             return Report::Refused(refusal_at(m, v, number, segment));
         }
-        put_all(m, v, chart, t, rows, starts, totals);
+        put_all(m, v, kind, chart, t, rows, starts, totals);
         return Report::Accepted(Counts {
             segments: t.segments,
             orders: t.orders,
@@ -224,26 +287,58 @@ fn report_with(
     Report::Refused(interchange::refuse(14))
 }
 
-// The same, by where the message's segments are placed.
-fn report_placed(
+// The same of an order, with its chart.
+fn report_order(
     m: &[u8],
     v: Service,
-    w: Placed,
+    kind: Kind,
+    misfit: Fault,
     rows: &mut [u16],
     starts: &mut [u32],
     totals: &mut [u64],
 ) -> Report
-    requires { ⌜ 0 ≡ outright (leb (length (now m)) 1048576) (fitting v) ⌝ }
-    requires { ⌜ Answers PAYMUL v (now m) w ⌝ }
+    requires { ⌜ Sorted kind v (now m) misfit ⌝ }
+    requires { ⌜ kind ≡ Paymul ⌝ }
     ensures { λ r. ⌜ Reported v (now (m .entry)) (lists (now (rows .entry)) (now (starts .entry)) (now (totals .entry))) (lists (now (rows .exit)) (now (starts .exit)) (now (totals .exit))) r ⌝ }
 {
     let chart = paymul::chart();
-    match w {
-        Placed::Whole => report_with(m, v, &chart, Fault::None, rows, starts, totals),
-        Placed::Stuck(at) => {
-            let misfit = misfit_at(m, v, at);
-            report_with(m, v, &chart, misfit, rows, starts, totals)
-        }
+    report_with(m, v, kind, &chart, misfit, rows, starts, totals)
+}
+
+// The same of an advice, with its chart.
+fn report_advice(
+    m: &[u8],
+    v: Service,
+    kind: Kind,
+    misfit: Fault,
+    rows: &mut [u16],
+    starts: &mut [u32],
+    totals: &mut [u64],
+) -> Report
+    requires { ⌜ Sorted kind v (now m) misfit ⌝ }
+    requires { ⌜ kind ≡ Debmul ⌝ }
+    ensures { λ r. ⌜ Reported v (now (m .entry)) (lists (now (rows .entry)) (now (starts .entry)) (now (totals .entry))) (lists (now (rows .exit)) (now (starts .exit)) (now (totals .exit))) r ⌝ }
+{
+    let chart = debmul::chart();
+    report_with(m, v, kind, &chart, misfit, rows, starts, totals)
+}
+
+// The same, by the kind.
+fn report_placed(
+    m: &[u8],
+    v: Service,
+    kind: Kind,
+    misfit: Fault,
+    rows: &mut [u16],
+    starts: &mut [u32],
+    totals: &mut [u64],
+) -> Report
+    requires { ⌜ Sorted kind v (now m) misfit ⌝ }
+    ensures { λ r. ⌜ Reported v (now (m .entry)) (lists (now (rows .entry)) (now (starts .entry)) (now (totals .entry))) (lists (now (rows .exit)) (now (starts .exit)) (now (totals .exit))) r ⌝ }
+{
+    match kind {
+        Kind::Paymul => report_order(m, v, kind, misfit, rows, starts, totals),
+        Kind::Debmul => report_advice(m, v, kind, misfit, rows, starts, totals),
     }
 }
 
@@ -261,6 +356,7 @@ pub fn check(
     if number != 0 {
         return Report::Refused(interchange::refuse(number));
     }
-    let w = chart::place(m, v);
-    report_placed(m, v, w, rows, starts, totals)
+    let kind = kind_of(m, v);
+    let misfit = misfit_of(m, v, kind);
+    report_placed(m, v, kind, misfit, rows, starts, totals)
 }

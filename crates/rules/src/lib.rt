@@ -2,7 +2,7 @@
 ghost use mathlib.Core.Path.{_≡_};
 ghost use Rattle.message.specs.Rules.{paymulOf};
 ghost use Rattle.message.specs.Faults.{tellAll, leastOf};
-ghost use Rattle.rules.specs.Placed.{placedOn};
+ghost use Rattle.message.specs.Placed.{placedOn};
 ghost use Rattle.rules.specs.forms.Steps.{onNumbers, onAmounts, onParties, onDetails, trailerFirst, numbersFirst, amountsFirst, leastFirst};
 use amounts::Amounts;
 use faults::Fault;
@@ -17,8 +17,8 @@ fn on_numbers(row: usize) -> bool
     ensures { λ r. ⌜ r ≡ onNumbers row ⌝ }
 {
     match row {
-        chart::LIN | chart::SEQ => true,
-        chart::CNT => true,
+        paymul::LIN | paymul::SEQ => true,
+        paymul::CNT => true,
         _ => false,
     }
 }
@@ -28,8 +28,8 @@ fn on_amounts(row: usize) -> bool
     ensures { λ r. ⌜ r ≡ onAmounts row ⌝ }
 {
     match row {
-        chart::LIN | chart::ORDER_MOA | chart::PAYMENT_MOA => true,
-        chart::ORDER_CUX => true,
+        paymul::LIN | paymul::ORDER_MOA | paymul::PAYMENT_MOA => true,
+        paymul::ORDER_CUX => true,
         _ => false,
     }
 }
@@ -39,8 +39,8 @@ fn on_parties(row: usize) -> bool
     ensures { λ r. ⌜ r ≡ onParties row ⌝ }
 {
     match row {
-        chart::LIN | chart::SEQ => true,
-        chart::ORDER_FII | chart::ORDER_NAD | chart::PAYMENT_FII | chart::PAYMENT_NAD => true,
+        paymul::LIN | paymul::SEQ => true,
+        paymul::ORDER_FII | paymul::ORDER_NAD | paymul::PAYMENT_FII | paymul::PAYMENT_NAD => true,
         _ => false,
     }
 }
@@ -50,8 +50,8 @@ fn on_details(row: usize) -> bool
     ensures { λ r. ⌜ r ≡ onDetails row ⌝ }
 {
     match row {
-        chart::LIN | chart::ORDER_PRC | chart::SEQ | chart::PAYMENT_PRC => true,
-        chart::PAYMENT_FTX | chart::PAYMENT_DOC => true,
+        paymul::LIN | paymul::ORDER_PRC | paymul::SEQ | paymul::PAYMENT_PRC => true,
+        paymul::PAYMENT_FTX | paymul::PAYMENT_DOC => true,
         _ => false,
     }
 }
@@ -121,8 +121,8 @@ pub fn judge(m: &[u8], v: Service, t: &[[u8; COLUMNS]], segments: u64, orders: u
     while at < m.len() {
         let next = nth + 1;
         row = chart::next_row(t, row, c.tag);
-        if row == trailer::UNT {
-            trailer = trailer::step(trailer, m, v, at, next, row, segments);
+        if row == paymul::UNT {
+            trailer = trailer::step(trailer, m, v, at, next, segments);
         }
         if on_numbers(row) {
             numbering = numbering::step(numbering, m, v, at, next, row, orders);

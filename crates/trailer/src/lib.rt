@@ -1,8 +1,7 @@
 // The trailer: UNT's count is the number of segments, and its reference is UNH's: 17 and 18.
 ghost use mathlib.Core.Path.{_≡_};
 ghost use Rattle.values.specs.Numbers.{valueIn};
-ghost use Rattle.message.specs.Segs.{segAt};
-ghost use Rattle.trailer.specs.forms.Steps.{trailerStart, trailerStep, taken};
+ghost use Rattle.trailer.specs.forms.Steps.{trailerStart, taken};
 use faults::First;
 use service::Service;
 
@@ -10,9 +9,6 @@ pub struct Trailer {
     pub first17: First,
     pub first18: First,
 }
-
-// The row of the UNT.
-pub const UNT: usize = 112;
 
 pub fn start() -> Trailer
     ensures { λ r. ⌜ r ≡ trailerStart ⌝ }
@@ -23,8 +19,8 @@ pub fn start() -> Trailer
     }
 }
 
-// The UNT at `at`, the nth segment. The UNH, whose reference it repeats, begins the message.
-fn held(st: Trailer, m: &[u8], v: Service, at: usize, nth: usize, segments: u64) -> Trailer
+// The UNT at `at`, the nth segment, of a message with so many segments. The UNH, whose reference it repeats, begins the message.
+pub fn step(st: Trailer, m: &[u8], v: Service, at: usize, nth: usize, segments: u64) -> Trailer
     ensures { λ r. ⌜ r ≡ taken segments (valueIn v 0 (now (m .entry)) 1 0) st (valueIn v at (now (m .entry))) nth ⌝ }
 {
     let f17 = st.first17;
@@ -32,22 +28,4 @@ fn held(st: Trailer, m: &[u8], v: Service, at: usize, nth: usize, segments: u64)
     let first17 = faults::keep(f17, values::number_is(m, at, v, 1, 0, segments), nth);
     let first18 = faults::keep(f18, values::same_in(m, at, v, 2, 0, 0, 1, 0), nth);
     Trailer { first17, first18 }
-}
-
-// One segment, the nth, of a message with so many segments.
-pub fn step(
-    st: Trailer,
-    m: &[u8],
-    v: Service,
-    at: usize,
-    nth: usize,
-    row: usize,
-    segments: u64,
-) -> Trailer
-    ensures { λ r. ⌜ r ≡ trailerStep segments (valueIn v 0 (now (m .entry)) 1 0) st (segAt v (now (m .entry)) nth row at) ⌝ }
-{
-    if row == UNT {
-        return held(st, m, v, at, nth, segments);
-    }
-    st
 }

@@ -18,6 +18,8 @@ pub const SEQ: u64 = 0x1_53_45_51;
 
 pub const PAYMUL: u64 = 0x1_50_41_59_4d_55_4c;
 
+pub const DEBMUL: u64 = 0x1_44_45_42_4d_55_4c;
+
 pub const D: u64 = 0x1_44;
 
 // 96A
@@ -66,3 +68,18 @@ pub const HUNDRED: u64 = 0x1_31_30_30;
 
 // 1000
 pub const THOUSAND: u64 = 0x1_31_30_30_30;
+
+// 106
+pub const HUNDRED_SIX: u64 = 0x1_31_30_36;
+
+// 202
+pub const TWO_HUNDRED_TWO: u64 = 0x1_32_30_32;
+
+// 209
+pub const TWO_HUNDRED_NINE: u64 = 0x1_32_30_39;
+
+// 342
+pub const THREE_HUNDRED_FORTY_TWO: u64 = 0x1_33_34_32;
+
+// 455
+pub const FOUR_HUNDRED_FIFTY_FIVE: u64 = 0x1_34_35_35;

@@ -1,24 +1,43 @@
--- PAYMUL's table passes the tests. Assumes nothing.
-use Rattle.chart.proofs.Paymul.{paymul-sound-at, paymul-answers}
+-- Placing on a whole table: all segments have been taken, or one is left over, or no message goes on. Assumes nothing.
+use Rattle.chart.proofs.Tables.{sound}
+use Rattle.chart.proofs.Whole.{whole-placed, whole-over, whole-stuck}
 use borrow.Author.Needs.{needs}
 use Rattle.chart.proofs.place.Statement.{statement}
 use Rattle.chart.proofs.place.Tie as tie
 use Rattle.chart.proofs.place.Reads as reads
 use Rattle.chart.proofs.place.Lts as lts
-use Rattle.chart.proofs.place_on.Reads as place-on-reads
-use Rattle.paymul.proofs.chart.Reads as chart-reads
+use Rattle.chart.proofs.cursor_at.Reads as cursor-at-reads
+use Rattle.chart.proofs.place_kind.Reads as place-kind-reads
 
-chart-requires : tie.Need-chart-requires
-chart-requires c κs = search (paymul-sound-at, paymul-answers, needs)
+cursor-at-requires : tie.Need-cursor-at-requires
+cursor-at-requires c κs = search (sound, whole-over, whole-placed, whole-stuck, needs)
 
-slice-aggregate-place-on : tie.Need-slice-aggregate-place-on
-slice-aggregate-place-on c = search (paymul-sound-at, paymul-answers, needs)
+place-kind-requires : tie.Need-place-kind-requires
+place-kind-requires c κs = search (sound, whole-over, whole-placed, whole-stuck, needs)
 
-place-on-requires : tie.Need-place-on-requires
-place-on-requires c κs = search (paymul-sound-at, paymul-answers, needs)
+enum-known-w : tie.Need-enum-known-w
+enum-known-w c = search (sound, whole-over, whole-placed, whole-stuck, needs)
 
 returns : tie.Need-returns
-returns c = search (paymul-sound-at, paymul-answers, needs)
+returns c = search (sound, whole-over, whole-placed, whole-stuck, needs)
+
+enum-known-w-2 : tie.Need-enum-known-w-2
+enum-known-w-2 c = search (sound, whole-over, whole-placed, whole-stuck, needs)
+
+returns-2 : tie.Need-returns-2
+returns-2 c = search (sound, whole-over, whole-placed, whole-stuck, needs)
+
+returns-3 : tie.Need-returns-3
+returns-3 c = search (sound, whole-over, whole-placed, whole-stuck, needs)
 
 pub place-spec : {M : Type 1} → statement M
-place-spec = tie.close (tie.spec chart-requires slice-aggregate-place-on place-on-requires returns)
+place-spec =
+    tie.close
+    (tie.spec
+    cursor-at-requires
+    place-kind-requires
+    enum-known-w
+    returns
+    enum-known-w-2
+    returns-2
+    returns-3)

@@ -28,19 +28,22 @@ use Rattle.lent.specs.Lists.{Lists, left}
 use Rattle.chart.specs.Chart.{Placement, FailsAt, Reading}
 use Rattle.chart.specs.Tags.{tagsOf}
 use Rattle.values.specs.forms.Codes.{UNT}
-use Rattle.chart.specs.Paymul.{PAYMUL, chart}
+use Rattle.kinds.specs.declared.Kind.{Kind}
+use Rattle.kinds.specs.Kinds.{tableOf}
 use Rattle.chart.proofs.Theorems.{placed-or-fails, closed-fails}
 use Rattle.chart.proofs.Whole.{fine}
-use Rattle.chart.proofs.Paymul.{paymul-sound}
+use Rattle.chart.proofs.Tables.{sound}
 use Rattle.message.specs.Segs.{segsOf}
-use Rattle.message.specs.Rules.{paymul}
+use Rattle.message.specs.Kinds.{chartFor, rulesFor}
 use Rattle.message.specs.Faults.{told, tellAll, leastOf}
 use Rattle.report.specs.declared.Report.the-variants as report
-use Rattle.report.specs.Reported.{Bare, bareOf, toldUnless, rule10, headed, fits, early, In, Lowest, offsetOf, countsOf, filled, roomOf, Reported, accepted, refused}
+use Rattle.report.specs.Reported.{Bare, bareOf, toldUnless, rule10, headed, fits, early, In, Of, Lowest, offsetOf, countsOf, filled, roomOf, Reported, accepted, refused}
 use Rattle.report.specs.laws.LeastLaws.{nowhere}
 use Rattle.report.specs.laws.EarlyLaws.{early-lowest, early-none}
 use Rattle.report.specs.laws.LateLaws.{late-none, late-lowest, misfit-lowest}
 use Rattle.report.specs.laws.ClosedLaws.{closes}
+use Rattle.report.specs.laws.KindLaws.{headed-of}
+use Rattle.report.specs.forms.Checks.{kindAt}
 use Rattle.walk.specs.declared.Walked.the-variants as walked
 use Rattle.walk.specs.Frame.{Step, message, nothing, stepWith, stepFrom}
 use Rattle.walk.specs.Frame as frame
@@ -63,6 +66,14 @@ module _ (v : Service) (m : List ℕ) (x : Lists) where
       let back : List (ℕ × List ℕ) = (12, toldUnless (headed (b .segments)) 1) ∷ (13, toldUnless (leb (length (b .segments)) 9999) 10000) ∷ (14, toldUnless (fits (b .segments) (roomOf x)) 0) ∷ [] in
       subst (λ (t : Bool). In (told 11 1) (tellAll (front ++ (11, toldUnless t 1) ∷ back))) (sym e) (told-in front back 11 1)
 
+  untyped-told : headed (bareOf v m .segments) ≡ false → In (told 12 1) (tellAll (early (bareOf v m) (roomOf x)))
+  unfolding early
+  untyped-told e =
+      let b : Bare = bareOf v m in
+      let front : List (ℕ × List ℕ) = (1, toldUnless (b .short) 0) ∷ (2, toldUnless (b .fit) 0) ∷ (10, rule10 1 (b .segments)) ∷ (11, toldUnless (b .closed) 1) ∷ [] in
+      let back : List (ℕ × List ℕ) = (13, toldUnless (leb (length (b .segments)) 9999) 10000) ∷ (14, toldUnless (fits (b .segments) (roomOf x)) 0) ∷ [] in
+      subst (λ (t : Bool). In (told 12 1) (tellAll (front ++ (12, toldUnless t 1) ∷ back))) (sym e) (told-in front back 12 1)
+
   module _ (q : tellAll (early (bareOf v m) (roomOf x)) ≡ []) where
     shut : endsClosed v m ≡ true
     shut = go (endsClosed v m) refl
@@ -71,21 +82,33 @@ module _ (v : Service) (m : List ℕ) (x : Lists) where
         go true e = e
         go false e = absurd (nowhere (told 11 1) _ q (unclosed-told e))
 
-    judged : (rows : List ℕ) → Reading chart (tagsOf v m) rows → (k : Fault) → leastOf (tellAll (paymul (segsOf v m rows))) ≡ k → Some (Reported v m x)
-    judged rows r fault.None e =
-        let c = countsOf (segsOf v m rows) in
-        (left (report.Accepted c) (filled v m rows x), accepted c rows r (late-none v m (roomOf x) rows r q e) refl refl)
-    judged rows r (fault.At n s) e = refuses n s (late-lowest v m (roomOf x) rows r q n s e)
+    -- where 12 is not told it is of a kind
+    typed : headed (bareOf v m .segments) ≡ true
+    typed = go (headed (bareOf v m .segments)) refl
+      where
+        go : (b : Bool) → headed (bareOf v m .segments) ≡ b → headed (bareOf v m .segments) ≡ true
+        go true e = e
+        go false e = absurd (nowhere (told 12 1) _ q (untyped-told e))
 
-    placing : ((rows : List ℕ) × Placement chart (tagsOf v m) rows) ⊎ ((j : ℕ) × FailsAt chart (tagsOf v m) j) → Some (Reported v m x)
-    placing (inl p) = judged (p .0) (read v m (roomOf x) (p .0) (p .1)) (leastOf (tellAll (paymul (segsOf v m (p .0))))) refl
-    placing (inr p) =
-        let c = closes v m shut in
-        let w = closed-fails chart UNT (paymul-sound .closed) (tagsOf v m) (c .before) (c .last) (p .0) (p .1) in
-        refuses 16 (p .0 + 1) (misfit-lowest v m (roomOf x) (p .0) w q)
+    module _ (d : Kind) (o : Of d v m) where
+      judged : (rows : List ℕ) → Reading (chartFor d) (tagsOf v m) rows → (k : Fault) → leastOf (tellAll (rulesFor d (segsOf v m rows))) ≡ k → Some (Reported v m x)
+      judged rows r fault.None e =
+          let c = countsOf d (segsOf v m rows) in
+          (left (report.Accepted c) (filled d v m rows x), accepted c d o rows r (late-none d v m o (roomOf x) rows r q e) refl refl)
+      judged rows r (fault.At n s) e = refuses n s (late-lowest d v m o (roomOf x) rows r q n s e)
+
+      placing : ((rows : List ℕ) × Placement (chartFor d) (tagsOf v m) rows) ⊎ ((j : ℕ) × FailsAt (chartFor d) (tagsOf v m) j) → Some (Reported v m x)
+      placing (inl p) = judged (p .0) (read v m (roomOf x) d (p .0) (p .1)) (leastOf (tellAll (rulesFor d (segsOf v m (p .0))))) refl
+      placing (inr p) =
+          let c = closes v m shut in
+          let w = closed-fails (chartFor d) UNT (sound d .closed) (tagsOf v m) (c .before) (c .last) (p .0) (p .1) in
+          refuses 16 (p .0 + 1) (misfit-lowest d v m o (roomOf x) (p .0) w q)
+
+    placed-by : Some (Reported v m x)
+    placed-by = let d = kindAt v m in placing d (headed-of v m typed) (placed-or-fails (chartFor d) (fine (tableOf d) (sound d)) (tagsOf v m))
 
   checks-by : (k : Fault) → leastOf (tellAll (early (bareOf v m) (roomOf x))) ≡ k → Some (Reported v m x)
-  checks-by fault.None e = placing (early-none v m (roomOf x) e) (placed-or-fails chart (fine PAYMUL paymul-sound) (tagsOf v m))
+  checks-by fault.None e = placed-by (early-none v m (roomOf x) e)
   checks-by (fault.At n s) e = refuses n s (early-lowest v m (roomOf x) n s e)
 
   checks : Some (Reported v m x)

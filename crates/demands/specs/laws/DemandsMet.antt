@@ -14,6 +14,7 @@ use Rattle.report.specs.declared.Report.the-variants as report
 use Rattle.report.specs.Reported.{Applies, Lowest, offsetOf, roomOf, Reported, accepted, refused}
 use Rattle.report.specs.laws.ReportedLaws.{one-report}
 use Rattle.rewrite.specs.laws.RewriteTheorems.{one-to-one, values-kept, written-so, rewrites-again}
+use Rattle.demands.specs.laws.AdviceCasesLaws.{advice-cases}
 use Rattle.demands.specs.laws.AnsweringLaws.{answering}
 use Rattle.demands.specs.laws.RefusalsLaws.{refusals}
 use Rattle.demands.specs.laws.AcceptingLaws.{accepting}
@@ -28,16 +29,16 @@ use Rattle.demands.specs.Demands.{Demands}
 module _ (v : Service) (m : List ℕ) (x x′ : Lists) where
   -- acceptance
   accepts : (y : Report) → Reported v m x x′ y → (c : Counts) × (y ≡ report.Accepted c) → (n k : ℕ) → Applies v m (roomOf x) n k → ⊥
-  accepts y (accepted c rows a free e p) h = free
+  accepts y (accepted c d o rows a free e p) h = free
   accepts y (refused g l o p) h = absurd (let q = h .1 in let z : _≡_ {A = ℕ} 0 1 = cc in omega arith)
 
   clear : (y : Report) → Reported v m x x′ y → ((n k : ℕ) → Applies v m (roomOf x) n k → ⊥) → (c : Counts) × (y ≡ report.Accepted c)
-  clear y (accepted c rows a free e p) h = (c, refl)
+  clear y (accepted c d o rows a free e p) h = (c, refl)
   clear y (refused g l o p) h = absurd (h (g .number) (g .segment) (l .applies))
 
   -- refusal
   told : (y : Report) → Reported v m x x′ y → (n k : ℕ) → (f : Refusal) × (y ≡ report.Refused f) × (f .number ≡ n) × (f .segment ≡ k) → Lowest v m (roomOf x) n k
-  told y (accepted c rows a free e p) n k h = absurd (let q = h .1 in let z : _≡_ {A = ℕ} 0 1 = cc in omega arith)
+  told y (accepted c d o rows a free e p) n k h = absurd (let q = h .1 in let z : _≡_ {A = ℕ} 0 1 = cc in omega arith)
   told y (refused g l o p) n k h =
       let q = h .1 in
       let u : g ≡ h .0 = cc in
@@ -68,4 +69,5 @@ met = record {
   one = one.one;
   wrong = wrong-readers;
   cases = cases.cases;
+  advices = advice-cases;
 }

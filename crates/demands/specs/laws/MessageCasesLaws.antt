@@ -17,32 +17,36 @@ use Rattle.table.specs.Entries.{linesFrom, within}
 use Rattle.chart.specs.Table.{chartOf, rowOver, inside}
 use Rattle.values.specs.forms.Codes.{UNH, BGM, DTM, LIN, RFF, MOA, FII, SEQ, CNT, UNT, CUX, NAD}
 use Rattle.chart.specs.forms.Columns.{parentOf, firstOf}
-use Rattle.chart.specs.forms.Next.{nextOf, chainFrom, findIn, nextRow as nextRowOn}
+use Rattle.chart.specs.forms.Next.{nextOf, chainFrom, findIn, nextRow, rowsOf}
 use Rattle.chart.specs.Tags.{tagsFrom, tagsOf}
-use Rattle.chart.specs.Paymul.{PAYMUL, chart, table}
-use Rattle.chart.specs.forms.Rows.{rowsOf}
+use Rattle.kinds.specs.declared.Kind.{Kind}
+use Rattle.kinds.specs.declared.Kind.the-variants.{Paymul}
+use Rattle.kinds.specs.Kinds.{tableOf}
+use Rattle.paymul.specs.Table.{PAYMUL, table}
 use Rattle.chart.proofs.Plain.{placed-one}
 use Rattle.chart.proofs.Whole.{fine, reading-of}
-use Rattle.chart.proofs.Paymul.{paymul-sound}
+use Rattle.chart.proofs.Tables.{sound}
 use Rattle.message.specs.Segs.{segsFrom, segsOf, those, until, stretches, each}
-use Rattle.message.specs.Rules.{some, failing, misnumbered, rule17, rule18, rule20, rule21, rule22, rule23, rule24, rule25, rule26, rule27, rule28, rule29, firstHolds, secondHolds, isBase, basesHold, sum, orderHolds, paymentHolds, detailsHold, paymul}
+use Rattle.message.specs.Rules.{some, failing, misnumbered, rule17, rule18, rule20, rule21, rule22, rule23, rule24, rule25, rule26, rule27, rule28, rule29, firstHolds, secondHolds, isBase, basesHold, sum, orderHolds, paymentHolds, detailsHold}
+use Rattle.message.specs.Kinds.{chartFor, rulesFor}
 use Rattle.message.specs.Faults.{rank, tell, tellAll, least, leastOf}
-use Rattle.report.specs.Reported.{bareOf, rule10, headed, lines, fits, early}
+use Rattle.report.specs.Reported.{bareOf, Room, rule10, isKind, headed, lines, asked, fits, early, Of}
 use Rattle.report.specs.laws.LateLaws.{late-none, late-lowest}
 use Rattle.demands.specs.MessageCases.{room, Holds, Gives, joined, exchange, unnamed, counted, Row9, Row10, Row11}
 
--- ---- a message with these tags, whose rows are these
-module _ (m ts ns : List ℕ) (t : tagsOf plainService m ≡ ts) (p : run ts (only chart) 0 ≡ placed) (r : rowsOf ts ≡ ns) (e : tellAll (early (bareOf plainService m) room) ≡ []) where
-  reads : Reading chart (tagsOf plainService m) ns
+-- ---- a message of a kind with these tags, whose rows are these
+module _ (k : Kind) (x : Room) (m ts ns : List ℕ) (o : Of k plainService m) (t : tagsOf plainService m ≡ ts) (p : run ts (only (chartFor k)) 0 ≡ placed) (r : rowsOf (tableOf k) ts ≡ ns)
+    (e : tellAll (early (bareOf plainService m) x) ≡ []) where
+  reads : Reading (chartFor k) (tagsOf plainService m) ns
   reads =
-      let w = placed-one chart ts (fine PAYMUL paymul-sound) p in
-      subst (λ (l : List ℕ). Reading chart l ns) (sym t) (subst (λ (l : List ℕ). Reading chart ts l) r (reading-of PAYMUL paymul-sound ts (w .0) (w .1)))
+      let w = placed-one (chartFor k) ts (fine (tableOf k) (sound k)) p in
+      subst (λ (l : List ℕ). Reading (chartFor k) l ns) (sym t) (subst (λ (l : List ℕ). Reading (chartFor k) ts l) r (reading-of (tableOf k) (sound k) ts (w .0) (w .1)))
 
-  holds : leastOf (tellAll (paymul (segsOf plainService m ns))) ≡ fault.None → Holds m
-  holds h = record { rows = ns; reading = reads; free = late-none plainService m room ns reads e h }
+  pub holds : leastOf (tellAll (rulesFor k (segsOf plainService m ns))) ≡ fault.None → Holds k x m
+  holds h = record { of = o; rows = ns; reading = reads; free = late-none k plainService m o x ns reads e h }
 
-  gives : (n s : ℕ) → leastOf (tellAll (paymul (segsOf plainService m ns))) ≡ fault.At n s → Gives m n s
-  gives n s h = late-lowest plainService m room ns reads e n s h
+  pub gives : (n s : ℕ) → leastOf (tellAll (rulesFor k (segsOf plainService m ns))) ≡ fault.At n s → Gives x m n s
+  gives n s h = late-lowest k plainService m o x ns reads e n s h
 
 -- ---- row 9
 abbrev tags9 : List ℕ
@@ -51,23 +55,27 @@ tags9 = UNH ∷ BGM ∷ DTM ∷ LIN ∷ DTM ∷ RFF ∷ MOA ∷ CUX ∷ FII ∷ 
 abbrev pub rows9 : List ℕ
 rows9 = 1 ∷ 2 ∷ 3 ∷ 17 ∷ 18 ∷ 19 ∷ 23 ∷ 24 ∷ 28 ∷ 50 ∷ 51 ∷ 53 ∷ 61 ∷ 108 ∷ 112 ∷ []
 
-run9 : run tags9 (only chart) 0 ≡ placed
+run9 : run tags9 (only (chartFor Paymul)) 0 ≡ placed
 unfolding PAYMUL table linesFrom within text chartOf rowOver inside run step stepRows free freeRows choose takes owed
 run9 = refl
 
-place9 : rowsOf tags9 ≡ rows9
-unfolding PAYMUL table linesFrom within text rowsBy nextRowOn chainFrom findIn nextOf parentOf firstOf
+place9 : rowsOf PAYMUL tags9 ≡ rows9
+unfolding PAYMUL table linesFrom within text rowsBy nextRow chainFrom findIn nextOf parentOf firstOf
 place9 = refl
 
 tags-eur : tagsOf plainService (exchange "MOA+57:100:EUR'") ≡ tags9
 unfolding joined text startsFrom pieces tagsFrom classOf lex valueOf codeFrom
 tags-eur = refl
 
+of-eur : Of Paymul plainService (exchange "MOA+57:100:EUR'")
+unfolding joined text isKind pieces classOf lex elements valueAt sameList
+of-eur = refl
+
 early-eur : tellAll (early (bareOf plainService (exchange "MOA+57:100:EUR'")) room) ≡ []
-unfolding joined text serves isAlphanumeric among distinct fitting pieces classOf lex valueOf elements valueAt sameList isStrange strangeFrom tagAt closedAt isReference rule10 headed lines fits early tell tellAll
+unfolding joined text serves isAlphanumeric among distinct fitting pieces classOf lex valueOf elements valueAt sameList isStrange strangeFrom tagAt closedAt isReference rule10 isKind headed lines asked fits early tell tellAll
 early-eur = refl
 
-late-eur : leastOf (tellAll (paymul (segsOf plainService (exchange "MOA+57:100:EUR'") rows9))) ≡ fault.None
+late-eur : leastOf (tellAll (rulesFor Paymul (segsOf plainService (exchange "MOA+57:100:EUR'") rows9))) ≡ fault.None
 unfolding joined text startsFrom pieces classOf lex elements valueAt segsFrom codeFrom sameList digits numberOf oneMore isMark units fraction isCapital isCapitals those until stretches each some failing misnumbered rule17 rule18 rule20 rule21 rule22 rule23 rule24 rule25 rule26 rule27 rule28 rule29 firstHolds secondHolds isBase basesHold sum orderHolds paymentHolds detailsHold rank tell tellAll least leastOf
 late-eur = refl
 
@@ -75,21 +83,25 @@ tags-usd : tagsOf plainService (exchange "MOA+57:100:USD'") ≡ tags9
 unfolding joined text startsFrom pieces tagsFrom classOf lex valueOf codeFrom
 tags-usd = refl
 
+of-usd : Of Paymul plainService (exchange "MOA+57:100:USD'")
+unfolding joined text isKind pieces classOf lex elements valueAt sameList
+of-usd = refl
+
 early-usd : tellAll (early (bareOf plainService (exchange "MOA+57:100:USD'")) room) ≡ []
-unfolding joined text serves isAlphanumeric among distinct fitting pieces classOf lex valueOf elements valueAt sameList isStrange strangeFrom tagAt closedAt isReference rule10 headed lines fits early tell tellAll
+unfolding joined text serves isAlphanumeric among distinct fitting pieces classOf lex valueOf elements valueAt sameList isStrange strangeFrom tagAt closedAt isReference rule10 isKind headed lines asked fits early tell tellAll
 early-usd = refl
 
-late-usd : leastOf (tellAll (paymul (segsOf plainService (exchange "MOA+57:100:USD'") rows9))) ≡ fault.At 25 8
+late-usd : leastOf (tellAll (rulesFor Paymul (segsOf plainService (exchange "MOA+57:100:USD'") rows9))) ≡ fault.At 25 8
 unfolding joined text startsFrom pieces classOf lex elements valueAt segsFrom codeFrom sameList digits numberOf oneMore isMark units fraction isCapital isCapitals those until stretches each some failing misnumbered rule17 rule18 rule20 rule21 rule22 rule23 rule24 rule25 rule26 rule27 rule28 rule29 firstHolds secondHolds isBase basesHold sum orderHolds paymentHolds detailsHold rank tell tellAll least leastOf
 late-usd = refl
 
 pub nine : Row9
 nine =
-    (holds (exchange "MOA+57:100:EUR'") tags9 rows9 tags-eur run9 place9 early-eur late-eur, gives (exchange "MOA+57:100:USD'") tags9 rows9 tags-usd run9 place9 early-usd 25 8 late-usd)
+    (holds Paymul room (exchange "MOA+57:100:EUR'") tags9 rows9 of-eur tags-eur run9 place9 early-eur late-eur, gives Paymul room (exchange "MOA+57:100:USD'") tags9 rows9 of-usd tags-usd run9 place9 early-usd 25 8 late-usd)
 
 -- its reading
-pub read9 : Reading chart (tagsOf plainService (exchange "MOA+57:100:EUR'")) rows9
-read9 = reads (exchange "MOA+57:100:EUR'") tags9 rows9 tags-eur run9 place9 early-eur
+pub read9 : Reading (chartFor Paymul) (tagsOf plainService (exchange "MOA+57:100:EUR'")) rows9
+read9 = reads Paymul room (exchange "MOA+57:100:EUR'") tags9 rows9 of-eur tags-eur run9 place9 early-eur
 
 -- ---- row 10
 abbrev tags10 : List ℕ
@@ -98,23 +110,27 @@ tags10 = UNH ∷ BGM ∷ DTM ∷ LIN ∷ DTM ∷ RFF ∷ MOA ∷ FII ∷ NAD ∷
 abbrev rows10 : List ℕ
 rows10 = 1 ∷ 2 ∷ 3 ∷ 17 ∷ 18 ∷ 19 ∷ 23 ∷ 28 ∷ 32 ∷ 50 ∷ 51 ∷ 53 ∷ 61 ∷ 108 ∷ 112 ∷ []
 
-run10 : run tags10 (only chart) 0 ≡ placed
+run10 : run tags10 (only (chartFor Paymul)) 0 ≡ placed
 unfolding PAYMUL table linesFrom within text chartOf rowOver inside run step stepRows free freeRows choose takes owed
 run10 = refl
 
-place10 : rowsOf tags10 ≡ rows10
-unfolding PAYMUL table linesFrom within text rowsBy nextRowOn chainFrom findIn nextOf parentOf firstOf
+place10 : rowsOf PAYMUL tags10 ≡ rows10
+unfolding PAYMUL table linesFrom within text rowsBy nextRow chainFrom findIn nextOf parentOf firstOf
 place10 = refl
 
 tags-pl : tagsOf plainService (unnamed "NAD+PL+++A'") ≡ tags10
 unfolding joined text startsFrom pieces tagsFrom classOf lex valueOf codeFrom
 tags-pl = refl
 
+of-pl : Of Paymul plainService (unnamed "NAD+PL+++A'")
+unfolding joined text isKind pieces classOf lex elements valueAt sameList
+of-pl = refl
+
 early-pl : tellAll (early (bareOf plainService (unnamed "NAD+PL+++A'")) room) ≡ []
-unfolding joined text serves isAlphanumeric among distinct fitting pieces classOf lex valueOf elements valueAt sameList isStrange strangeFrom tagAt closedAt isReference rule10 headed lines fits early tell tellAll
+unfolding joined text serves isAlphanumeric among distinct fitting pieces classOf lex valueOf elements valueAt sameList isStrange strangeFrom tagAt closedAt isReference rule10 isKind headed lines asked fits early tell tellAll
 early-pl = refl
 
-late-pl : leastOf (tellAll (paymul (segsOf plainService (unnamed "NAD+PL+++A'") rows10))) ≡ fault.None
+late-pl : leastOf (tellAll (rulesFor Paymul (segsOf plainService (unnamed "NAD+PL+++A'") rows10))) ≡ fault.None
 unfolding joined text startsFrom pieces classOf lex elements valueAt segsFrom codeFrom sameList digits numberOf oneMore isMark units fraction isCapital isCapitals those until stretches each some failing misnumbered rule17 rule18 rule20 rule21 rule22 rule23 rule24 rule25 rule26 rule27 rule28 rule29 firstHolds secondHolds isBase basesHold sum orderHolds paymentHolds detailsHold rank tell tellAll least leastOf
 late-pl = refl
 
@@ -122,17 +138,21 @@ tags-oy : tagsOf plainService (unnamed "NAD+OY+++A'") ≡ tags10
 unfolding joined text startsFrom pieces tagsFrom classOf lex valueOf codeFrom
 tags-oy = refl
 
+of-oy : Of Paymul plainService (unnamed "NAD+OY+++A'")
+unfolding joined text isKind pieces classOf lex elements valueAt sameList
+of-oy = refl
+
 early-oy : tellAll (early (bareOf plainService (unnamed "NAD+OY+++A'")) room) ≡ []
-unfolding joined text serves isAlphanumeric among distinct fitting pieces classOf lex valueOf elements valueAt sameList isStrange strangeFrom tagAt closedAt isReference rule10 headed lines fits early tell tellAll
+unfolding joined text serves isAlphanumeric among distinct fitting pieces classOf lex valueOf elements valueAt sameList isStrange strangeFrom tagAt closedAt isReference rule10 isKind headed lines asked fits early tell tellAll
 early-oy = refl
 
-late-oy : leastOf (tellAll (paymul (segsOf plainService (unnamed "NAD+OY+++A'") rows10))) ≡ fault.At 27 4
+late-oy : leastOf (tellAll (rulesFor Paymul (segsOf plainService (unnamed "NAD+OY+++A'") rows10))) ≡ fault.At 27 4
 unfolding joined text startsFrom pieces classOf lex elements valueAt segsFrom codeFrom sameList digits numberOf oneMore isMark units fraction isCapital isCapitals those until stretches each some failing misnumbered rule17 rule18 rule20 rule21 rule22 rule23 rule24 rule25 rule26 rule27 rule28 rule29 firstHolds secondHolds isBase basesHold sum orderHolds paymentHolds detailsHold rank tell tellAll least leastOf
 late-oy = refl
 
 pub ten : Row10
 ten =
-    (holds (unnamed "NAD+PL+++A'") tags10 rows10 tags-pl run10 place10 early-pl late-pl, gives (unnamed "NAD+OY+++A'") tags10 rows10 tags-oy run10 place10 early-oy 27 4 late-oy)
+    (holds Paymul room (unnamed "NAD+PL+++A'") tags10 rows10 of-pl tags-pl run10 place10 early-pl late-pl, gives Paymul room (unnamed "NAD+OY+++A'") tags10 rows10 of-oy tags-oy run10 place10 early-oy 27 4 late-oy)
 
 -- ---- row 11
 abbrev tags11 : List ℕ
@@ -141,23 +161,27 @@ tags11 = UNH ∷ BGM ∷ DTM ∷ LIN ∷ DTM ∷ RFF ∷ MOA ∷ FII ∷ SEQ ∷
 abbrev pub rows11 : List ℕ
 rows11 = 1 ∷ 2 ∷ 3 ∷ 17 ∷ 18 ∷ 19 ∷ 23 ∷ 28 ∷ 50 ∷ 51 ∷ 53 ∷ 61 ∷ 50 ∷ 51 ∷ 53 ∷ 61 ∷ 17 ∷ 18 ∷ 19 ∷ 23 ∷ 28 ∷ 50 ∷ 51 ∷ 53 ∷ 61 ∷ 108 ∷ 112 ∷ []
 
-run11 : run tags11 (only chart) 0 ≡ placed
+run11 : run tags11 (only (chartFor Paymul)) 0 ≡ placed
 unfolding PAYMUL table linesFrom within text chartOf rowOver inside run step stepRows free freeRows choose takes owed
 run11 = refl
 
-place11 : rowsOf tags11 ≡ rows11
-unfolding PAYMUL table linesFrom within text rowsBy nextRowOn chainFrom findIn nextOf parentOf firstOf
+place11 : rowsOf PAYMUL tags11 ≡ rows11
+unfolding PAYMUL table linesFrom within text rowsBy nextRow chainFrom findIn nextOf parentOf firstOf
 place11 = refl
 
 tags-again : tagsOf plainService (counted "SEQ++1'") ≡ tags11
 unfolding joined text startsFrom pieces tagsFrom classOf lex valueOf codeFrom
 tags-again = refl
 
+of-again : Of Paymul plainService (counted "SEQ++1'")
+unfolding joined text isKind pieces classOf lex elements valueAt sameList
+of-again = refl
+
 early-again : tellAll (early (bareOf plainService (counted "SEQ++1'")) room) ≡ []
-unfolding joined text serves isAlphanumeric among distinct fitting pieces classOf lex valueOf elements valueAt sameList isStrange strangeFrom tagAt closedAt isReference rule10 headed lines fits early tell tellAll
+unfolding joined text serves isAlphanumeric among distinct fitting pieces classOf lex valueOf elements valueAt sameList isStrange strangeFrom tagAt closedAt isReference rule10 isKind headed lines asked fits early tell tellAll
 early-again = refl
 
-late-again : leastOf (tellAll (paymul (segsOf plainService (counted "SEQ++1'") rows11))) ≡ fault.None
+late-again : leastOf (tellAll (rulesFor Paymul (segsOf plainService (counted "SEQ++1'") rows11))) ≡ fault.None
 unfolding joined text startsFrom pieces classOf lex elements valueAt segsFrom codeFrom sameList digits numberOf oneMore isMark units fraction isCapital isCapitals those until stretches each some failing misnumbered rule17 rule18 rule20 rule21 rule22 rule23 rule24 rule25 rule26 rule27 rule28 rule29 firstHolds secondHolds isBase basesHold sum orderHolds paymentHolds detailsHold rank tell tellAll least leastOf
 late-again = refl
 
@@ -165,17 +189,21 @@ tags-on : tagsOf plainService (counted "SEQ++3'") ≡ tags11
 unfolding joined text startsFrom pieces tagsFrom classOf lex valueOf codeFrom
 tags-on = refl
 
+of-on : Of Paymul plainService (counted "SEQ++3'")
+unfolding joined text isKind pieces classOf lex elements valueAt sameList
+of-on = refl
+
 early-on : tellAll (early (bareOf plainService (counted "SEQ++3'")) room) ≡ []
-unfolding joined text serves isAlphanumeric among distinct fitting pieces classOf lex valueOf elements valueAt sameList isStrange strangeFrom tagAt closedAt isReference rule10 headed lines fits early tell tellAll
+unfolding joined text serves isAlphanumeric among distinct fitting pieces classOf lex valueOf elements valueAt sameList isStrange strangeFrom tagAt closedAt isReference rule10 isKind headed lines asked fits early tell tellAll
 early-on = refl
 
-late-on : leastOf (tellAll (paymul (segsOf plainService (counted "SEQ++3'") rows11))) ≡ fault.At 21 22
+late-on : leastOf (tellAll (rulesFor Paymul (segsOf plainService (counted "SEQ++3'") rows11))) ≡ fault.At 21 22
 unfolding joined text startsFrom pieces classOf lex elements valueAt segsFrom codeFrom sameList digits numberOf oneMore isMark units fraction isCapital isCapitals those until stretches each some failing misnumbered rule17 rule18 rule20 rule21 rule22 rule23 rule24 rule25 rule26 rule27 rule28 rule29 firstHolds secondHolds isBase basesHold sum orderHolds paymentHolds detailsHold rank tell tellAll least leastOf
 late-on = refl
 
 pub eleven : Row11
 eleven =
-    (holds (counted "SEQ++1'") tags11 rows11 tags-again run11 place11 early-again late-again, gives (counted "SEQ++3'") tags11 rows11 tags-on run11 place11 early-on 21 22 late-on)
+    (holds Paymul room (counted "SEQ++1'") tags11 rows11 of-again tags-again run11 place11 early-again late-again, gives Paymul room (counted "SEQ++3'") tags11 rows11 of-on tags-on run11 place11 early-on 21 22 late-on)
 
-pub read11 : Reading chart (tagsOf plainService (counted "SEQ++1'")) rows11
-read11 = reads (counted "SEQ++1'") tags11 rows11 tags-again run11 place11 early-again
+pub read11 : Reading (chartFor Paymul) (tagsOf plainService (counted "SEQ++1'")) rows11
+read11 = reads Paymul room (counted "SEQ++1'") tags11 rows11 of-again tags-again run11 place11 early-again

@@ -9,7 +9,7 @@ use Rattle.interchange.specs.laws.OpenedLaws.{one-opening}
 use Rattle.interchange.specs.laws.ClosingLaws.{one-closing}
 use Rattle.chart.specs.declared.Cursor.{Cursor}
 use Rattle.chart.specs.forms.Cursor.{CursorIs}
-use Rattle.chart.specs.Paymul.{PAYMUL}
+use Rattle.kinds.specs.Kinds.{tableOf}
 use Rattle.chart.proofs.Answers.{one-answer}
 use Rattle.amounts.specs.laws.StepLaws.{one-sums}
 use Rattle.report.specs.laws.ReportedLaws.{one-report}
@@ -60,9 +60,10 @@ one = record {
   truth-either = λ a b x y p q. only p q;
   truth-isnt = λ a x y p q. only p q;
   paymul-chart = λ x y p q. only p q;
+  debmul-chart = λ x y p q. only p q;
   chart-cursor-at = λ m at v x y. one-cursor v m at x y;
   chart-step = λ m v c x y p q. only (p .is) (q .is);
-  chart-place = λ m v. one-answer PAYMUL v m;
+  chart-place = λ m v kind. one-answer (tableOf kind) v m;
   chart-next-row = λ t prev tag x y p q. only p q;
   tally-tally-of = λ m v x y p q. only p q;
   tally-segments-before = λ m v at x y p q. only p q;
@@ -80,8 +81,9 @@ one = record {
   details-step = λ st m v at nth row x y p q. only p q;
   details-close = λ st x y p q. only p q;
   trailer-start = λ x y p q. only p q;
-  trailer-step = λ st m v at nth row segments x y p q. only p q;
+  trailer-step = λ st m v at nth segments x y p q. only p q;
   rules-judge = λ m v t n k x y p q. only p q;
+  advice-judge = λ m v t segments x y p q. only p q;
   listing-put-lists = λ m v t n k l x y p q. only p q;
   report-check = λ m v. one-report v m;
   walk-walk = one-walk;

@@ -34,12 +34,15 @@ use Rattle.lent.specs.Over.{over}
 use Rattle.chart.specs.Chart.{Reading}
 use Rattle.chart.specs.Tags.{tagsOf}
 use Rattle.chart.specs.laws.TagsLaws.{same-count}
-use Rattle.chart.specs.Paymul.{PAYMUL, chart}
-use Rattle.chart.specs.forms.Rows.{rowsOf}
+use Rattle.chart.specs.forms.Next.{rowsOf}
+use Rattle.kinds.specs.declared.Kind.{Kind}
+use Rattle.kinds.specs.declared.Kind.the-variants.{Paymul, Debmul}
+use Rattle.kinds.specs.Kinds.{tableOf}
 use Rattle.chart.proofs.Whole.{placed-rows}
-use Rattle.chart.proofs.Paymul.{paymul-sound}
+use Rattle.chart.proofs.Tables.{sound}
 use Rattle.message.specs.Segs.{Seg, segsOf}
-use Rattle.message.specs.Rules.{paymul, totalsOf}
+use Rattle.message.specs.Rules.{totalsOf}
+use Rattle.message.specs.Kinds.{chartFor, rulesFor, totalsFor, orderCount}
 use Rattle.message.specs.Faults.{rank, told, tell, tellAll}
 use Rattle.report.specs.declared.Counts.{Counts}
 use Rattle.report.specs.declared.Report.{Report}
@@ -160,11 +163,13 @@ known-all : (rs : List (ℕ × List ℕ)) → Known rs → All (λ n s. among n 
 known-all [] h = tt
 known-all (r ∷ rs) h = (every (λ s. among (r .0) bySegment ≡ true) (λ s. h .0) (r .1), known-all rs (h .1))
 
-late-known : (n s : ℕ) (m : List Seg) → In (told n s) (tellAll (paymul m)) → among n bySegment ≡ true
+rules-known : (k : Kind) (m : List Seg) → Known (rulesFor k m)
 unfolding among
-late-known n s m i =
-    all-told (λ n s. among n bySegment ≡ true) (paymul m) (told n s)
-    (known-all (paymul m) (refl, (refl, (refl, (refl, (refl, (refl, (refl, (refl, (refl, (refl, (refl, (refl, tt))))))))))))) i
+rules-known Paymul m = (refl, (refl, (refl, (refl, (refl, (refl, (refl, (refl, (refl, (refl, (refl, (refl, tt))))))))))))
+rules-known Debmul m = (refl, (refl, (refl, (refl, (refl, tt)))))
+
+late-known : (k : Kind) (n s : ℕ) (m : List Seg) → In (told n s) (tellAll (rulesFor k m)) → among n bySegment ≡ true
+late-known k n s m i = all-told (λ n s. among n bySegment ≡ true) (rulesFor k m) (told n s) (known-all (rulesFor k m) (rules-known k m)) i
 
 module _ (v : Service) (m : List ℕ) where
   abbrev many : ℕ
@@ -206,19 +211,19 @@ module _ (v : Service) (m : List ℕ) where
         ),
       )
 
-  rows-many : (rows : List ℕ) → Reading chart (tagsOf v m) rows → length rows ≡ many
-  rows-many rows r = ap length (placed-rows PAYMUL paymul-sound (tagsOf v m) rows (r .placement)) ∙ rows-are v m ∙ sym (pieces-tags v m)
+  rows-many : (k : Kind) (rows : List ℕ) → Reading (chartFor k) (tagsOf v m) rows → length rows ≡ many
+  rows-many k rows r = ap length (placed-rows (tableOf k) (sound k) (tagsOf v m) rows (r .placement)) ∙ rows-are (tableOf k) v m ∙ sym (pieces-tags v m)
 
   row-of : (x : Room) (n s : ℕ) → Applies v m x n s → Row many n s
   unfolding among
   row-of x n s (soon i) = all-told (Row many) (early (bareOf v m) x) (told n s) (early-rows x) i
-  row-of x n s (misfit j g p q) = let w = g .within in let z = pieces-tags v m in row-segment (ap (λ (k : ℕ). among k bySegment) p) (omega arith) (omega arith)
-  row-of x n s (late rows r i) =
-      let w = late-within v m rows n s i in
+  row-of x n s (misfit c o j g p q) = let w = g .within in let z = pieces-tags v m in row-segment (ap (λ (k : ℕ). among k bySegment) p) (omega arith) (omega arith)
+  row-of x n s (late c o rows r i) =
+      let w = late-within c v m rows n s i in
       let a = w .0 in
       let b = w .1 in
-      let z = rows-many rows r in
-      row-segment (late-known n s (segsOf v m rows) i) a (omega arith)
+      let z = rows-many c rows r in
+      row-segment (late-known c n s (segsOf v m rows) i) a (omega arith)
 
   -- a message with a segment has bytes
   has-bytes : 1 ≤ many → 0 < length m
@@ -294,7 +299,7 @@ module _ (v : Service) (m : List ℕ) where
 
   module _ (x x′ : Lists) where
     check-by : (y : Report) → Reported v m x x′ y → (f : Refusal) → y ≡ report.Refused f → Tabled v m f × (x′ ≡ x)
-    check-by y (accepted c rows a free e p) f u = absurd (let z : _≡_ {A = ℕ} 0 1 = cc in omega arith)
+    check-by y (accepted c k i rows a free e p) f u = absurd (let z : _≡_ {A = ℕ} 0 1 = cc in omega arith)
     check-by y (refused g l o p) f u =
         let z : g ≡ f = cc in
         (subst (Tabled v m) z (tabled x x′ g (refused g l o p) l o (row-of (roomOf x) (g .number) (g .segment) (l .applies))), p)
@@ -307,21 +312,26 @@ module _ (v : Service) (m : List ℕ) where
     unfolding over
     drop-over n new old e = subst (λ (k : ℕ). drop k (new ++ drop (length new) old) ≡ drop k old) e (drop-append-seam new (drop (length new) old))
 
-    beyond-of : (rows : List ℕ) → Reading chart (tagsOf v m) rows → Beyond (countsOf (segsOf v m rows)) x (filled v m rows x)
-    beyond-of rows r =
-        let q : rows ≡ rowsOf (tagsOf v m) = placed-rows PAYMUL paymul-sound (tagsOf v m) rows (r .placement) in
-        let p : Reading chart (tagsOf v m) (rowsOf (tagsOf v m)) = subst (Reading chart (tagsOf v m)) q r in
-        let n = placed-length v m in
-        subst (λ (l : List ℕ). Beyond (countsOf (segsOf v m l)) x (filled v m l x)) (sym q) (record {
-          rows = drop-over _ (rowsOf (tagsOf v m)) (x .rows) (rows-are v m ∙ sym n);
+    beyond-totals : (k : Kind) → Reading (chartFor k) (tagsOf v m) (rowsOf (tableOf k) (tagsOf v m))
+        → drop (orderCount k (segsOf v m (rowsOf (tableOf k) (tagsOf v m)))) (over (totalsFor k (segsOf v m (rowsOf (tableOf k) (tagsOf v m)))) (x .totals)) ≡ drop (orderCount k (segsOf v m (rowsOf (tableOf k) (tagsOf v m)))) (x .totals)
+    beyond-totals Paymul r = drop-over _ (totalsOf (segsOf v m (rowsOf (tableOf Paymul) (tagsOf v m)))) (x .totals) (totals-count v m (r .placement))
+    beyond-totals Debmul r = unfold over in refl
+
+    beyond-of : (k : Kind) (rows : List ℕ) → Reading (chartFor k) (tagsOf v m) rows → Beyond (countsOf k (segsOf v m rows)) x (filled k v m rows x)
+    beyond-of k rows r =
+        let q : rows ≡ rowsOf (tableOf k) (tagsOf v m) = placed-rows (tableOf k) (sound k) (tagsOf v m) rows (r .placement) in
+        let p : Reading (chartFor k) (tagsOf v m) (rowsOf (tableOf k) (tagsOf v m)) = subst (Reading (chartFor k) (tagsOf v m)) q r in
+        let n = placed-length (tableOf k) v m in
+        subst (λ (l : List ℕ). Beyond (countsOf k (segsOf v m l)) x (filled k v m l x)) (sym q) (record {
+          rows = drop-over _ (rowsOf (tableOf k) (tagsOf v m)) (x .rows) (rows-are (tableOf k) v m ∙ sym n);
           starts = drop-over _ (startsOf v m) (x .starts) (same-count v m 0 ∙ sym n);
-          totals = drop-over _ (totalsOf (segsOf v m (rowsOf (tagsOf v m)))) (x .totals) (totals-count v m (p .placement));
+          totals = beyond-totals k p;
         })
 
     beyond-by : (y : Report) → Reported v m x x′ y → (c : Counts) → y ≡ report.Accepted c → Beyond c x x′
-    beyond-by y (accepted d rows a free e p) c u =
-        let z : countsOf (segsOf v m rows) ≡ c = sym e ∙ (let i : d ≡ c = cc in i) in
-        subst (λ (k : Counts). Beyond k x x′) z (subst (λ (l : Lists). Beyond (countsOf (segsOf v m rows)) x l) (sym p) (beyond-of rows a))
+    beyond-by y (accepted d k o rows a free e p) c u =
+        let z : countsOf k (segsOf v m rows) ≡ c = sym e ∙ (let i : d ≡ c = cc in i) in
+        subst (λ (i : Counts). Beyond i x x′) z (subst (λ (l : Lists). Beyond (countsOf k (segsOf v m rows)) x l) (sym p) (beyond-of k rows a))
     beyond-by y (refused g l o p) c u = absurd (let z : _≡_ {A = ℕ} 0 1 = cc in omega arith)
 
     pub beyond : (c : Counts) → Reported v m x x′ (report.Accepted c) → Beyond c x x′

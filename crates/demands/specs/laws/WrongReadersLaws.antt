@@ -22,14 +22,17 @@ use Rattle.lent.specs.Lists.{Lists, Left, left}
 use Rattle.lent.specs.Over.{over}
 use Rattle.chart.specs.Chart.{Reading}
 use Rattle.chart.specs.Tags.{tagsOf}
-use Rattle.chart.specs.Paymul.{chart}
+use Rattle.kinds.specs.declared.Kind.{Kind}
+use Rattle.kinds.specs.declared.Kind.the-variants.{Paymul}
+use Rattle.message.specs.Kinds.{chartFor}
 use Rattle.message.specs.Segs.{segsFrom, segsOf, those}
 use Rattle.message.specs.Rules.{totalsOf}
 use Rattle.report.specs.declared.Counts.{Counts}
 use Rattle.report.specs.declared.Report.{Report}
 use Rattle.report.specs.declared.Report.the-variants.{Accepted, Refused}
-use Rattle.report.specs.Reported.{Room, Applies, roomOf, countsOf, filled, Reported, accepted, refused}
+use Rattle.report.specs.Reported.{Room, Of, Applies, roomOf, countsOf, filled, Reported, accepted, refused}
 use Rattle.report.specs.laws.ReportedLaws.{one-report}
+use Rattle.report.specs.laws.KindLaws.{one-kind}
 use Rattle.chart.proofs.Theorems.{one-reading}
 use Rattle.demands.specs.Runs.{Visit, Run, Over, none, also, Told}
 use Rattle.demands.specs.laws.RunLaws.{run-over}
@@ -39,11 +42,11 @@ use Rattle.demands.specs.laws.AnsweringLaws.{answering}
 use Rattle.demands.specs.WrongReaders.{Reader, Right, good, longer, bad, clear, two, counts, WrongReaders}
 
 -- ---- what is computed of the two messages
-segments9 : countsOf (segsOf plainService good rows9) ≡ counts 15 1 1
+segments9 : countsOf Paymul (segsOf plainService good rows9) ≡ counts 15 1 1
 unfolding joined text startsFrom pieces classOf segsFrom those
 segments9 = refl
 
-segments11 : countsOf (segsOf plainService longer rows11) ≡ counts 27 2 3
+segments11 : countsOf Paymul (segsOf plainService longer rows11) ≡ counts 27 2 3
 unfolding joined text startsFrom pieces classOf segsFrom those
 segments11 = refl
 
@@ -56,25 +59,27 @@ unfolding joined text startsFrom pieces classOf lex elements valueAt segsFrom th
 totals11 = refl
 
 -- ---- whatever meets the contract of a message with this reading to which nothing applies
-module _ (m rows : List ℕ) (r : Reading chart (tagsOf plainService m) rows) where
+module _ (m rows : List ℕ) (i : Of Paymul plainService m) (r : Reading (chartFor Paymul) (tagsOf plainService m) rows) where
   module _ (free : (n s : ℕ) → Applies plainService m room n s → ⊥) where
-    answer : (x x′ : Lists) (y : Report) → roomOf x ≡ room → Reported plainService m x x′ y → left y x′ ≡ left (Accepted (countsOf (segsOf plainService m rows))) (filled plainService m rows x)
+    answer : (x x′ : Lists) (y : Report) → roomOf x ≡ room → Reported plainService m x x′ y → left y x′ ≡ left (Accepted (countsOf Paymul (segsOf plainService m rows))) (filled Paymul plainService m rows x)
     answer x x′ y e w =
-        one-report plainService m x x′ (filled plainService m rows x) y (Accepted (countsOf (segsOf plainService m rows))) w
-        (accepted (countsOf (segsOf plainService m rows)) rows r (subst (λ (k : Room). (n s : ℕ) → Applies plainService m k n s → ⊥) (sym e) free) refl refl)
+        one-report plainService m x x′ (filled Paymul plainService m rows x) y (Accepted (countsOf Paymul (segsOf plainService m rows))) w
+        (accepted (countsOf Paymul (segsOf plainService m rows)) Paymul i rows r (subst (λ (k : Room). (n s : ℕ) → Applies plainService m k n s → ⊥) (sym e) free) refl refl)
 
-  counts-by : (x x′ : Lists) (y : Report) → Reported plainService m x x′ y → (c : Counts) → y ≡ Accepted c → c ≡ countsOf (segsOf plainService m rows)
-  counts-by x x′ y (accepted d ns a f e p) c u =
+  counts-by : (x x′ : Lists) (y : Report) → Reported plainService m x x′ y → (c : Counts) → y ≡ Accepted c → c ≡ countsOf Paymul (segsOf plainService m rows)
+  counts-by x x′ y (accepted d k o ns a f e p) c u =
       let z : c ≡ d = cc in
-      z ∙ e ∙ ap (λ (l : List ℕ). countsOf (segsOf plainService m l)) (one-reading chart (tagsOf plainService m) ns rows a r)
+      let q : k ≡ Paymul = one-kind plainService m k Paymul o i in
+      let w = one-reading (chartFor Paymul) (tagsOf plainService m) ns rows (subst (λ (j : Kind). Reading (chartFor j) (tagsOf plainService m) ns) q a) r in
+      z ∙ e ∙ ap (λ (j : Kind). countsOf j (segsOf plainService m ns)) q ∙ ap (λ (l : List ℕ). countsOf Paymul (segsOf plainService m l)) w
   counts-by x x′ y (refused g l o p) c u = absurd (let z : _≡_ {A = ℕ} 0 1 = cc in omega arith)
 
 module _ (r : Reader) (h : Right r) where
-  nines : left (r good clear .answer) (r good clear .lists) ≡ left (Accepted (countsOf (segsOf plainService good rows9))) (filled plainService good rows9 clear)
-  nines = answer good rows9 read9 (nine .0 .free) clear (r good clear .lists) (r good clear .answer) refl (h good clear)
+  nines : left (r good clear .answer) (r good clear .lists) ≡ left (Accepted (countsOf Paymul (segsOf plainService good rows9))) (filled Paymul plainService good rows9 clear)
+  nines = answer good rows9 (nine .0 .of) read9 (nine .0 .free) clear (r good clear .lists) (r good clear .answer) refl (h good clear)
 
-  elevens : left (r longer clear .answer) (r longer clear .lists) ≡ left (Accepted (countsOf (segsOf plainService longer rows11))) (filled plainService longer rows11 clear)
-  elevens = answer longer rows11 read11 (eleven .0 .free) clear (r longer clear .lists) (r longer clear .answer) refl (h longer clear)
+  elevens : left (r longer clear .answer) (r longer clear .lists) ≡ left (Accepted (countsOf Paymul (segsOf plainService longer rows11))) (filled Paymul plainService longer rows11 clear)
+  elevens = answer longer rows11 (eleven .0 .of) read11 (eleven .0 .free) clear (r longer clear .lists) (r longer clear .answer) refl (h longer clear)
 
   answer9 : r good clear .answer ≡ Accepted (counts 15 1 1)
   answer9 = ap (λ (k : Left Report). k .answer) nines ∙ ap Accepted segments9
@@ -82,10 +87,10 @@ module _ (r : Reader) (h : Right r) where
   answer11 : r longer clear .answer ≡ Accepted (counts 27 2 3)
   answer11 = ap (λ (k : Left Report). k .answer) elevens ∙ ap Accepted segments11
 
-  lists9 : r good clear .lists ≡ filled plainService good rows9 clear
+  lists9 : r good clear .lists ≡ filled Paymul plainService good rows9 clear
   lists9 = ap (λ (k : Left Report). k .lists) nines
 
-  lists11 : r longer clear .lists ≡ filled plainService longer rows11 clear
+  lists11 : r longer clear .lists ≡ filled Paymul plainService longer rows11 clear
   lists11 = ap (λ (k : Left Report). k .lists) elevens
 
   all-refused : ((m : List ℕ) (x : Lists) → (f : Refusal) × (r m x .answer ≡ Refused f)) → ⊥
@@ -159,8 +164,8 @@ second-bytes : bytesOf two other ≡ bad
 unfolding joined text
 second-bytes = refl
 
-is-refused : (m : List ℕ) (n s : ℕ) → Gives m n s → (x x′ : Lists) (y : Report) → roomOf x ≡ room → Reported plainService m x x′ y → (f : Refusal) × (y ≡ Refused f)
-is-refused m n s g x x′ y e (accepted c rows a free p q) = absurd (free n s (subst (λ (k : Room). Applies plainService m k n s) (sym e) (g .applies)))
+is-refused : (m : List ℕ) (n s : ℕ) → Gives room m n s → (x x′ : Lists) (y : Report) → roomOf x ≡ room → Reported plainService m x x′ y → (f : Refusal) × (y ≡ Refused f)
+is-refused m n s g x x′ y e (accepted c k i rows a free p q) = absurd (free n s (subst (λ (k : Room). Applies plainService m k n s) (sym e) (g .applies)))
 is-refused m n s g x x′ y e (refused f l o p) = (f, refl)
 
 visits : (x : Lists) {ms : List Extent} {l : List Visit} → Over plainService two x ms l → ms ≡ one ∷ other ∷ [] → (w w′ : Visit) → l ≡ w ∷ w′ ∷ []
@@ -180,10 +185,10 @@ repeated x e w w′ run q =
     let t = visits x o found w w′ refl in
     let a : Reported plainService good x (w .given .lists) (w .given .answer) = subst (λ (m : List ℕ). Reported plainService m x (w .given .lists) (w .given .answer)) first-bytes (t .0 .report) in
     let b : Reported plainService bad x (w′ .given .lists) (w′ .given .answer) = subst (λ (m : List ℕ). Reported plainService m x (w′ .given .lists) (w′ .given .answer)) second-bytes (t .1 .report) in
-    let c = ap (λ (k : Left Report). k .answer) (answer good rows9 read9 (nine .0 .free) x (w .given .lists) (w .given .answer) e a) in
+    let c = ap (λ (k : Left Report). k .answer) (answer good rows9 (nine .0 .of) read9 (nine .0 .free) x (w .given .lists) (w .given .answer) e a) in
     let d = is-refused bad 25 8 (nine .1) x (w′ .given .lists) (w′ .given .answer) e b in
     let f = d .0 in
-    let z : Accepted (countsOf (segsOf plainService good rows9)) ≡ Refused f = sym c ∙ q ∙ d .1 in
+    let z : Accepted (countsOf Paymul (segsOf plainService good rows9)) ≡ Refused f = sym c ∙ q ∙ d .1 in
     let y : _≡_ {A = ℕ} 0 1 = cc in omega arith
 
 pub wrong-readers : WrongReaders
@@ -197,6 +202,6 @@ wrong-readers = record {
   writes-no-starts = no-starts;
   writes-no-totals = no-totals;
   repeats = repeated;
-  counts-good = λ x x′ c w. counts-by good rows9 read9 x x′ (Accepted c) w c refl ∙ segments9;
-  counts-longer = λ x x′ c w. counts-by longer rows11 read11 x x′ (Accepted c) w c refl ∙ segments11;
+  counts-good = λ x x′ c w. counts-by good rows9 (nine .0 .of) read9 x x′ (Accepted c) w c refl ∙ segments9;
+  counts-longer = λ x x′ c w. counts-by longer rows11 (eleven .0 .of) read11 x x′ (Accepted c) w c refl ∙ segments11;
 }

@@ -7,9 +7,9 @@ use Rattle.values.specs.forms.Values.{codeOf}
 use Rattle.values.specs.forms.Codes as codes
 use Rattle.faults.specs.declared.First.{First}
 use Rattle.faults.specs.declared.First.the-variants as first
-use Rattle.faults.specs.Firsts.{lesser, placeUnless}
+use Rattle.faults.specs.Firsts.{lesser}
 use Rattle.message.specs.Segs.{Seg, LIN, SEQ, PRC10, PRC16, FTX16, DOC17, is}
-use Rattle.message.specs.forms.Run.{testStep, Level, levelStep, close}
+use Rattle.message.specs.forms.Run.{placeIf, testStep, Level, levelStep, close}
 use Rattle.message.specs.forms.Counts.{someStep}
 use Rattle.details.specs.declared.Common.{Common}
 use Rattle.details.specs.declared.Group.{Group}
@@ -38,10 +38,6 @@ groupHolds x text documents =
     (eqb x codes.EIGHT && documents && not text)
     || ((eqb x codes.NINE || eqb x codes.TEN) && documents && text)
     || (eqb x codes.ELEVEN && text && not documents)
-
-abbrev pub placeIf : First → Bool → First
-placeIf first.None t = first.None
-placeIf (first.At n) t = placeUnless t n
 
 unfoldable pub groupComes : Group → First
 groupComes g = placeIf (g .prc) (groupHolds (g .code) (g .text) (g .documents))

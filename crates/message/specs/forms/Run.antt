@@ -17,6 +17,11 @@ unfoldable pub firstOf : List ℕ → First
 firstOf [] = first.None
 firstOf (p ∷ ps) = lesser (first.At p) (firstOf ps)
 
+-- a place, if there is one and a test does not hold
+abbrev pub placeIf : First → Bool → First
+placeIf first.None t = first.None
+placeIf (first.At n) t = placeUnless t n
+
 -- a test of each segment of a kind
 unfoldable pub testStep : (Seg → Bool) → (Seg → Bool) → First → Seg → First
 testStep t ok f s = if (t s) (lesser f (placeUnless (ok s) (s .nth))) f

@@ -8,7 +8,7 @@ use Rattle.faults.specs.declared.First.{First}
 use Rattle.faults.specs.declared.First.the-variants as first
 use Rattle.faults.specs.Firsts.{lesser, placeUnless}
 use Rattle.faults.specs.laws.FirstsLaws.{lesser-last}
-use Rattle.message.specs.Segs.{Seg, LIN, SEQ, is, those}
+use Rattle.message.specs.Segs.{Seg, LIN, SEQ, rowOf, is, those}
 use Rattle.message.specs.Rules.{writes, unless, misnumbered, fault21, rule20, rule21, rule29}
 use Rattle.message.specs.forms.Run.{run, firstOf, testStep, levelStep, close}
 use Rattle.message.specs.laws.FirstLaws.{none-lesser, first-append, first-unless, first-more, test-tells}
@@ -73,7 +73,7 @@ parts n st [] = refl
 parts n st (s ∷ ss) = parts n (numberingStep n st s) ss
 
 module _ (n : ℕ) (m : List Seg) where
-  pub agree20 : run (numberingStep n) numberingStart m .first20 ≡ firstOf (rule20 m)
+  pub agree20 : run (numberingStep n) numberingStart m .first20 ≡ firstOf (rule20 (rowOf LIN) m)
   unfolding rule20
   agree20 = rw (parts n numberingStart m) (line-run 0 first.None m ∙ none-lesser _)
 

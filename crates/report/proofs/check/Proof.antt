@@ -5,8 +5,9 @@ use Rattle.report.proofs.check.Statement.{statement}
 use Rattle.report.proofs.check.Tie as tie
 use Rattle.report.proofs.check.Reads as reads
 use Rattle.report.proofs.check.Lts as lts
-use Rattle.chart.proofs.place.Reads as place-reads
 use Rattle.interchange.proofs.refuse.Reads as refuse-reads
+use Rattle.report.proofs.kind_of.Reads as kind-of-reads
+use Rattle.report.proofs.misfit_of.Reads as misfit-of-reads
 use Rattle.report.proofs.refused_outright.Reads as refused-outright-reads
 use Rattle.report.proofs.report_placed.Reads as report-placed-reads
 
@@ -19,8 +20,11 @@ refuse-requires c κs = search (check-outright, needs)
 returns : tie.Need-returns
 returns c = search (check-outright, needs)
 
-place-requires : tie.Need-place-requires
-place-requires c κs = search (check-outright, needs)
+kind-of-requires : tie.Need-kind-of-requires
+kind-of-requires c κs = search (check-outright, needs)
+
+misfit-of-requires : tie.Need-misfit-of-requires
+misfit-of-requires c κs = search (check-outright, needs)
 
 report-placed-requires : tie.Need-report-placed-requires
 report-placed-requires c κs = search (check-outright, needs)
@@ -44,7 +48,8 @@ check-spec =
     refused-outright-requires
     refuse-requires
     returns
-    place-requires
+    kind-of-requires
+    misfit-of-requires
     report-placed-requires
     same-length
     same-length-2

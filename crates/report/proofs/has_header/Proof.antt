@@ -7,7 +7,7 @@ use Rattle.report.proofs.has_header.Reads as reads
 use Rattle.report.proofs.has_header.Lts as lts
 use Rattle.interchange.proofs.is_reference.Reads as is-reference-reads
 use Rattle.truth.proofs.both.Reads as both-reads
-use Rattle.report.proofs.is_paymul.Reads as is-paymul-reads
+use Rattle.report.proofs.is_typed.Reads as is-typed-reads
 use Rattle.values.proofs.code_at.Reads as code-at-reads
 use Rattle.values.proofs.length_in.Reads as length-in-reads
 
@@ -23,8 +23,8 @@ is-reference-requires c κs = search (header-by, needs)
 both-requires : tie.Need-both-requires
 both-requires c κs = search (header-by, needs)
 
-is-paymul-requires : tie.Need-is-paymul-requires
-is-paymul-requires c κs = search (header-by, needs)
+is-typed-requires : tie.Need-is-typed-requires
+is-typed-requires c κs = search (header-by, needs)
 
 returns : tie.Need-returns
 returns c = search (header-by, needs)
@@ -37,5 +37,5 @@ has-header-spec =
     length-in-requires
     is-reference-requires
     both-requires
-    is-paymul-requires
+    is-typed-requires
     returns)

@@ -5,7 +5,7 @@ use Rattle.report.proofs.late_fault.Statement.{statement}
 use Rattle.report.proofs.late_fault.Tie as tie
 use Rattle.report.proofs.late_fault.Reads as reads
 use Rattle.report.proofs.late_fault.Lts as lts
-use Rattle.rules.proofs.judge.Reads as judge-reads
+use Rattle.report.proofs.judge.Reads as judge-reads
 
 enum-told : tie.Need-enum-told
 enum-told c = search (late-placed, late-stuck, needs)

@@ -32,18 +32,21 @@ use Rattle.chart.specs.Chart.{Reading}
 use Rattle.values.specs.forms.Codes as codes
 use Rattle.chart.specs.Answer.{StuckAt}
 use Rattle.chart.proofs.Answers.{unt-stuck}
+use Rattle.chart.specs.Table.{Table}
 use Rattle.chart.specs.Tags.{tagsOf}
 use Rattle.chart.specs.laws.TagsLaws.{tags-few}
-use Rattle.chart.specs.Paymul.{PAYMUL, chart}
-use Rattle.chart.specs.forms.Rows.{rowsOf}
-use Rattle.chart.proofs.Paymul.{paymul-sound}
+use Rattle.chart.specs.forms.Next.{rowsOf}
+use Rattle.chart.proofs.Tables.{sound}
+use Rattle.kinds.specs.declared.Kind.{Kind}
+use Rattle.kinds.specs.Kinds.{tableOf}
 use Rattle.message.specs.forms.Run.{firstOf}
 use Rattle.message.specs.Segs.{segsOf}
-use Rattle.message.specs.Rules.{paymul, paymulOf}
+use Rattle.message.specs.Kinds.{means, chartFor, rulesFor}
+use Rattle.message.specs.Placed.{placedOn}
 use Rattle.message.specs.Faults.{told, tellAll, leastOf}
 use Rattle.report.specs.declared.Counts.{Counts}
 use Rattle.report.specs.declared.Report.the-variants.{Accepted, Refused}
-use Rattle.report.specs.Reported.{Raw, rawOf, bareOf, Room, toldUnless, rule10, headed, fits, early, Lowest, offsetOf, Reported, accepted, refused, roomOf, filled}
+use Rattle.report.specs.Reported.{Raw, rawOf, bareOf, Room, toldUnless, rule10, headed, asked, fits, early, Of, Lowest, offsetOf, Reported, accepted, refused, roomOf, filled}
 use Rattle.report.specs.laws.EarlyLaws.{early-least, early-lowest, early-none, numbers-told, late-numbers}
 use Rattle.report.specs.laws.LateLaws.{late-none, late-lowest, misfit-lowest}
 use Rattle.report.specs.laws.LeastLaws.{least-told}
@@ -51,10 +54,11 @@ use Rattle.report.specs.laws.SmallLaws.{late-within}
 use Rattle.report.specs.laws.CountLaws.{times, lin-tags, seq-tags}
 use Rattle.report.specs.laws.FillLaws.{rows-are, placed-length, lists-over}
 use Rattle.report.specs.laws.ClosedLaws.{Closes, closes}
-use Rattle.report.specs.forms.Checks.{endsWith, headedAt, outright, earlyFault, Late, placed, stuck, byteRefusal, startBy, refusalAt}
+use Rattle.report.specs.forms.Checks.{endsWith, headedAt, outright, Begun, earlyFault, Late, placed, stuck, listedOrders, byteRefusal, startBy, refusalAt}
 use Rattle.report.specs.laws.UntLaws.{closed-is}
 use Rattle.report.specs.laws.PieceLaws.{lines-tags, pieces-tags, number-is}
-use Rattle.report.specs.laws.ChecksLaws.{headed-is}
+use Rattle.report.specs.laws.ChecksLaws.{headed-is, not-none}
+use Rattle.report.specs.laws.KindLaws.{headed-of, asked-is}
 use Rattle.report.specs.laws.TenLaws.{ten-none, ten-at}
 
 -- ---- 1, 2 and 10 to 14 as a chain of tests
@@ -83,9 +87,6 @@ plain-by n k n′ k′ e p =
     let y = p .few in
     record { other = subst (λ (i : ℕ). eqb i 10 ≡ false) a (p .other); some = omega arith; few = omega arith }
 
-not-none : (n k : ℕ) → fault.At n k ≡ fault.None → ⊥
-not-none n k e = let z : _≡_ {A = ℕ} 0 1 = cc in omega arith
-
 module _ (n len : ℕ) (f : Bool) where
   early-at : (c h : Bool) → (c ≡ true → len ≡ n) → (a k : ℕ) → earlyFault c h n ≡ fault.At a k → (chain true true first.None c h (leb len 9999) f ≡ fault.At a k) × Plain a k
   early-at false h g a k e = (e, plain-by 11 1 a k e (record { other = refl; some = omega arith; few = omega arith }))
@@ -102,17 +103,17 @@ module _ (n len : ℕ) (f : Bool) where
           let l : n ≤ 9999 = omega arith in
           absurd (not-none a k (sym e ∙ ap (λ (b : Bool). if b (fault.At 13 10000) fault.None) (le-ltb 9999 n l)))
 
-  early-pass : (c h : Bool) → (c ≡ true → len ≡ n) → earlyFault c h n ≡ fault.None → (c ≡ true) × (chain true true first.None c h (leb len 9999) f ≡ numberFirst 14 (placeUnless f 0) fault.None)
+  early-pass : (c h : Bool) → (c ≡ true → len ≡ n) → earlyFault c h n ≡ fault.None → (c ≡ true) × (h ≡ true) × (chain true true first.None c h (leb len 9999) f ≡ numberFirst 14 (placeUnless f 0) fault.None)
   early-pass false h g e = absurd (not-none 11 1 e)
   early-pass true false g e = absurd (not-none 12 1 e)
   early-pass true true g e = go (decLt 9999 n)
     where
-      go : Dec (9999 < n) → (true ≡ true) × (chain true true first.None true true (leb len 9999) f ≡ numberFirst 14 (placeUnless f 0) fault.None)
+      go : Dec (9999 < n) → (true ≡ true) × (true ≡ true) × (chain true true first.None true true (leb len 9999) f ≡ numberFirst 14 (placeUnless f 0) fault.None)
       go (yes h) = absurd (not-none 13 10000 (sym (ap (λ (b : Bool). if b (fault.At 13 10000) fault.None) (lt-ltb 9999 n h)) ∙ e))
       go (no h) =
           let q = g refl in
           let l : len ≤ 9999 = omega arith in
-          (refl, ap (λ (b : Bool). chain true true first.None true true b f) (le-leb len 9999 l))
+          (refl, refl, ap (λ (b : Bool). chain true true first.None true true b f) (le-leb len 9999 l))
 
 -- ---- what the tally has
 abbrev pub tallied : Service → List ℕ → Tally
@@ -167,9 +168,9 @@ module _ (v : Service) (m : List ℕ) where
         go (no h) true q = let l : length m ≤ 1048576 = omega arith in absurd (z (d ∙ rw (le-leb (length m) 1048576 l, q)))
         go (no h) false q = let l : length m ≤ 1048576 = omega arith in check-unfit l q f (e ∙ ap refusal (d ∙ rw (le-leb (length m) 1048576 l, q)))
 
-    module _ (u : 0 ≡ outright (leb (length m) 1048576) (fitting v)) where
+    module _ (d : Kind) (t : Table) (begun : Begun d t v m) where
       ready : (length m ≤ 1048576) × (fitting v ≡ true)
-      ready = go (leb (length m) 1048576) (fitting v) refl refl (sym u)
+      ready = go (leb (length m) 1048576) (fitting v) refl refl (sym (begun .ready))
         where
           go : (a b : Bool) → leb (length m) 1048576 ≡ a → fitting v ≡ b → outright a b ≡ 0 → (length m ≤ 1048576) × (fitting v ≡ true)
           go true true p q e = (leb-true (length m) 1048576 p, q)
@@ -237,7 +238,7 @@ module _ (v : Service) (m : List ℕ) where
               refuse-at n k (w .1 .other) (w .1 .some) (omega arith) (early-lowest v m (roomOf x) n k (quiet ∙ w .0)) f g
 
           module _ (q : e ≡ fault.None) where
-            passes : (endsClosed v m ≡ true)
+            passes : (endsClosed v m ≡ true) × (headed (raws v m) ≡ true)
                 × (chain true true first.None (endsClosed v m) (headed (raws v m)) (leb (length (raws v m)) 9999) (fits (raws v m) (roomOf x)) ≡ numberFirst 14 (placeUnless (fits (raws v m) (roomOf x)) 0) fault.None)
             passes = early-pass (z .segments) (length (raws v m)) (fits (raws v m) (roomOf x)) (endsClosed v m) (headed (raws v m)) segments-as (sym early-as ∙ q)
 
@@ -253,13 +254,19 @@ module _ (v : Service) (m : List ℕ) where
             payments-are : z .payments ≡ times codes.SEQ (tagsOf v m)
             payments-are = ap (λ (y : Tally). y .payments) c ∙ shut .payments
 
-            fits-as : fits (raws v m) (roomOf x) ≡ leb (z .segments) (length (x .rows)) && leb (z .segments) (length (x .starts)) && leb (z .orders) (length (x .totals))
-            unfolding fits
-            fits-as = rw (segments-as (passes .0), lines-tags v m, orders-are)
+            of : Of d v m
+            of = subst (λ (k : Kind). Of k v m) (sym (begun .kind)) (headed-of v m (passes .1))
 
-            module _ (b : Bool) (w : b ≡ leb (z .segments) (length (x .rows)) && leb (z .segments) (length (x .starts)) && leb (z .orders) (length (x .totals))) where
+            asked-as : asked (raws v m) ≡ listedOrders d (z .orders)
+            asked-as = asked-is v m d of ∙ ap (listedOrders d) (lines-tags v m ∙ sym orders-are)
+
+            fits-as : fits (raws v m) (roomOf x) ≡ leb (z .segments) (length (x .rows)) && leb (z .segments) (length (x .starts)) && leb (listedOrders d (z .orders)) (length (x .totals))
+            unfolding fits
+            fits-as = rw (segments-as (passes .0), asked-as)
+
+            module _ (b : Bool) (w : b ≡ leb (z .segments) (length (x .rows)) && leb (z .segments) (length (x .starts)) && leb (listedOrders d (z .orders)) (length (x .totals))) where
               early-ends : leastOf (tellAll (early (bareOf v m) (roomOf x))) ≡ numberFirst 14 (placeUnless b 0) fault.None
-              early-ends = quiet ∙ passes .1 ∙ ap (λ (y : Bool). numberFirst 14 (placeUnless y 0) fault.None) (fits-as ∙ sym w)
+              early-ends = quiet ∙ passes .2 ∙ ap (λ (y : Bool). numberFirst 14 (placeUnless y 0) fault.None) (fits-as ∙ sym w)
 
               -- 14
               pub check-room : b ≡ false → (f : Refusal) → f ≡ refusal 14 → Reported v m x x (Refused f)
@@ -272,31 +279,34 @@ module _ (v : Service) (m : List ℕ) where
                 none-early : tellAll (early (bareOf v m) (roomOf x)) ≡ []
                 none-early = early-none v m (roomOf x) (early-ends ∙ rw g)
 
-                room : (leb (z .segments) (length (x .rows)) ≡ true) × (leb (z .segments) (length (x .starts)) ≡ true) × (leb (z .orders) (length (x .totals)) ≡ true)
-                room = all-true (leb (z .segments) (length (x .rows))) (leb (z .segments) (length (x .starts))) (leb (z .orders) (length (x .totals))) (sym w ∙ g)
+                room : (leb (z .segments) (length (x .rows)) ≡ true) × (leb (z .segments) (length (x .starts)) ≡ true) × (leb (listedOrders d (z .orders)) (length (x .totals)) ≡ true)
+                room = all-true (leb (z .segments) (length (x .rows))) (leb (z .segments) (length (x .starts))) (leb (listedOrders d (z .orders)) (length (x .totals))) (sym w ∙ g)
+
+                abbrev rows : List ℕ
+                rows = rowsOf (tableOf d) (tagsOf v m)
 
                 module _ (l : Fault) where
-                  -- 17 to 29
-                  late-placed : Reading chart (tagsOf v m) (rowsOf (tagsOf v m)) → l ≡ leastOf (tellAll (paymul (segsOf v m (rowsOf (tagsOf v m)))))
+                  -- 17 to 31
+                  late-placed : Reading (chartFor d) (tagsOf v m) rows → l ≡ leastOf (tellAll (rulesFor d (segsOf v m rows)))
                       → (n k : ℕ) → l ≡ fault.At n k → (f : Refusal) → f ≡ refusalAt v m n k → Reported v m x x (Refused f)
                   late-placed rd h n k p f y =
                       let most = small in
                       let u = sym h ∙ p in
-                      let i = least-told (tellAll (paymul (segsOf v m (rowsOf (tagsOf v m))))) n k u in
-                      let lo = numbers-told 17 29 _ (told n k) (late-numbers (segsOf v m (rowsOf (tagsOf v m)))) i .0 in
-                      let within = late-within v m (rowsOf (tagsOf v m)) n k i in
+                      let i = least-told (tellAll (rulesFor d (segsOf v m rows))) n k u in
+                      let lo = numbers-told 17 31 _ (told n k) (late-numbers d (segsOf v m rows)) i .0 in
+                      let within = late-within d v m rows n k i in
                       let hi = within .1 in
-                      let a = rows-are v m in
+                      let a = rows-are (tableOf d) v m in
                       let few = tags-few v m 0 in
                       refuse-at n k (ne-eqb n 10 (λ (j : n ≡ 10). omega arith)) (within .0) (omega arith)
-                      (late-lowest v m (roomOf x) (rowsOf (tagsOf v m)) rd none-early n k u) f y
+                      (late-lowest d v m of (roomOf x) rows rd none-early n k u) f y
 
                   -- 16
-                  late-stuck : (p : ℕ) → StuckAt PAYMUL v m p → l ≡ fault.At 16 (passed (length m) p (segmentsFrom v m 0) % 4294967295 + 1)
+                  late-stuck : (p : ℕ) → StuckAt (tableOf d) v m p → l ≡ fault.At 16 (passed (length m) p (segmentsFrom v m 0) % 4294967295 + 1)
                       → (n k : ℕ) → l ≡ fault.At n k → (f : Refusal) → f ≡ refusalAt v m n k → Reported v m x x (Refused f)
                   late-stuck p a h n k y f e =
                       let most = small in
-                      let u = unt-stuck PAYMUL paymul-sound v m p a (shut .before) (shut .last) in
+                      let u = unt-stuck (tableOf d) (sound d) v m p a (shut .before) (shut .last) in
                       let j = u .0 in
                       let fm = u .2 in
                       let lt = fm .within in
@@ -307,33 +317,33 @@ module _ (v : Service) (m : List ℕ) where
                       let n16 : 16 ≡ n = cc in
                       let kj : j + 1 ≡ k = cc in
                       refuse-at n k (subst (λ (i : ℕ). eqb i 10 ≡ false) n16 refl) (omega arith) (omega arith)
-                      (subst (λ (i : ℕ). Lowest v m (roomOf x) i k) n16 (subst (λ (i : ℕ). Lowest v m (roomOf x) 16 i) kj (misfit-lowest v m (roomOf x) j fm none-early))) f e
+                      (subst (λ (i : ℕ). Lowest v m (roomOf x) i k) n16 (subst (λ (i : ℕ). Lowest v m (roomOf x) 16 i) kj (misfit-lowest d v m of (roomOf x) j fm none-early))) f e
 
                   -- the counts that `judge` is told are the message's
-                  counted : Reading chart (tagsOf v m) (rowsOf (tagsOf v m)) → l ≡ leastOf (tellAll (paymulOf (z .segments) (z .orders) (segsOf v m (rowsOf (tagsOf v m)))))
-                      → l ≡ leastOf (tellAll (paymul (segsOf v m (rowsOf (tagsOf v m)))))
+                  counted : Reading (chartFor d) (tagsOf v m) rows → l ≡ leastOf (tellAll (means d .rules (z .segments) (z .orders) (placedOn (tableOf d) v m)))
+                      → l ≡ leastOf (tellAll (rulesFor d (segsOf v m rows)))
                   counted rd h =
                       h
-                      ∙ ap (λ (k : ℕ). leastOf (tellAll (paymulOf k (z .orders) (segsOf v m (rowsOf (tagsOf v m)))))) (segments-are ∙ sym (placed-length v m))
-                      ∙ ap (λ (n : ℕ). leastOf (tellAll (paymulOf (length (segsOf v m (rowsOf (tagsOf v m)))) n (segsOf v m (rowsOf (tagsOf v m)))))) (orders-are ∙ sym (lin-tags v m (rd .placement)))
+                      ∙ ap (λ (k : ℕ). leastOf (tellAll (means d .rules k (z .orders) (segsOf v m rows)))) (segments-are ∙ sym (placed-length (tableOf d) v m))
+                      ∙ ap (λ (n : ℕ). leastOf (tellAll (means d .rules (length (segsOf v m rows)) n (segsOf v m rows)))) (orders-are ∙ sym (lin-tags v m d (rd .placement)))
 
-                  pub check-late : Late v m (z .segments) (z .orders) l → (n k : ℕ) → l ≡ fault.At n k → (f : Refusal) → f ≡ refusalAt v m n k → Reported v m x x (Refused f)
+                  pub check-late : Late d v m (z .segments) (z .orders) l → (n k : ℕ) → l ≡ fault.At n k → (f : Refusal) → f ≡ refusalAt v m n k → Reported v m x x (Refused f)
                   check-late (placed rd h) = late-placed rd (counted rd h)
                   check-late (stuck p a h) = late-stuck p a h
 
                   -- accepted
-                  module _ (x′ : Lists) (x′-is : x′ ≡ listsAfter PAYMUL v m (z .segments) (z .orders) x) where
-                    filled-by : Reading chart (tagsOf v m) (rowsOf (tagsOf v m)) → x′ ≡ filled v m (rowsOf (tagsOf v m)) x
+                  module _ (x′ : Lists) (x′-is : x′ ≡ listsAfter (tableOf d) v m (z .segments) (listedOrders d (z .orders)) x) where
+                    filled-by : Reading (chartFor d) (tagsOf v m) rows → x′ ≡ filled d v m rows x
                     filled-by rd =
-                        let o = orders-are ∙ sym (lin-tags v m (rd .placement)) in
-                        x′-is ∙ lists-over v m (z .segments) (z .orders) x segments-are (leb-true _ _ (room .0)) (leb-true _ _ (room .1)) (leb-true _ _ (room .2)) small (rd .placement) o
+                        let e = ap (listedOrders d) (orders-are ∙ sym (lin-tags v m d (rd .placement))) in
+                        x′-is ∙ lists-over v m d (z .segments) (listedOrders d (z .orders)) x segments-are (leb-true _ _ (room .0)) (leb-true _ _ (room .1)) (leb-true _ _ (room .2)) small (rd .placement) e
 
-                    done-by : Late v m (z .segments) (z .orders) l → l ≡ fault.None → (n : Counts) → n ≡ record { segments = z .segments; orders = z .orders; payments = z .payments } → Reported v m x x′ (Accepted n)
+                    done-by : Late d v m (z .segments) (z .orders) l → l ≡ fault.None → (n : Counts) → n ≡ record { segments = z .segments; orders = z .orders; payments = z .payments } → Reported v m x x′ (Accepted n)
                     done-by (stuck p a h) y n k = absurd (not-none 16 _ (sym h ∙ y))
                     done-by (placed rd h) y n k =
-                        let o = orders-are ∙ sym (lin-tags v m (rd .placement)) in
-                        accepted n (rowsOf (tagsOf v m)) rd (late-none v m (roomOf x) (rowsOf (tagsOf v m)) rd none-early (sym (counted rd h) ∙ y))
-                        (k ∙ rw (segments-are ∙ sym (placed-length v m), o, payments-are ∙ sym (seq-tags v m (rd .placement)))) (filled-by rd)
+                        let e = orders-are ∙ sym (lin-tags v m d (rd .placement)) in
+                        accepted n d of rows rd (late-none d v m of (roomOf x) rows rd none-early (sym (counted rd h) ∙ y))
+                        (k ∙ rw (segments-are ∙ sym (placed-length (tableOf d) v m), e, payments-are ∙ sym (seq-tags v m d (rd .placement)))) (filled-by rd)
 
-                    pub check-done : Late v m (z .segments) (z .orders) l → l ≡ fault.None → Reported v m x x′ (Accepted (record { segments = z .segments; orders = z .orders; payments = z .payments }))
+                    pub check-done : Late d v m (z .segments) (z .orders) l → l ≡ fault.None → Reported v m x x′ (Accepted (record { segments = z .segments; orders = z .orders; payments = z .payments }))
                     check-done a y = done-by a y (record { segments = z .segments; orders = z .orders; payments = z .payments }) refl

@@ -7,7 +7,9 @@ use mathlib.Core.List.{List, [], _∷_, _++_}
 use Rattle.service.specs.declared.Service.{Service}
 use Rattle.faults.specs.declared.Fault.the-variants as fault
 use Rattle.message.specs.Segs.{Seg, segsOf}
-use Rattle.message.specs.Rules.{paymul}
+use Rattle.kinds.specs.declared.Kind.{Kind}
+use Rattle.kinds.specs.declared.Kind.the-variants.{Paymul, Debmul}
+use Rattle.message.specs.Kinds.{rulesFor}
 use Rattle.message.specs.Faults.{rank, Told, told, tell, tellAll, least, leastOf}
 use Rattle.message.specs.laws.FaultLaws.{Rising, byRules, by-rules}
 use Rattle.report.specs.Reported.{Bare, bareOf, Room, early, In, here, there, Applies, soon, misfit, late, Lowest}
@@ -33,9 +35,10 @@ early-numbers : (b : Bare) (x : Room) → Numbers 1 14 (early b x)
 unfolding Numbers early
 early-numbers b x = omega arith
 
-pub late-numbers : (m : List Seg) → Numbers 17 29 (paymul m)
+pub late-numbers : (k : Kind) (m : List Seg) → Numbers 17 31 (rulesFor k m)
 unfolding Numbers
-late-numbers m = omega arith
+late-numbers Paymul m = omega arith
+late-numbers Debmul m = omega arith
 
 -- the rules stand in the order of their ranks, so the code's chain of tests gives the least
 early-rising : (b : Bare) (x : Room) → Rising 0 (early b x)
@@ -56,8 +59,8 @@ module _ (v : Service) (m : List ℕ) (x : Room) where
 
   first-by : (b : Told) (l : List Told) → (b ∷ l) ≡ tellAll (early (bareOf v m) x) → (n s : ℕ) → least b l ≡ told n s → n ≤ 14 → (k t : ℕ) → Applies v m x k t → (rank n < rank k) ⊎ ((n ≡ k) × (s ≤ t))
   first-by b l q n s w h k t (soon i) = lowest-by n s k t h (subst (λ (c : Told). NotAfter c (told k t)) w (least-first b l (told k t) (subst (λ (u : List Told). In (told k t) u) (sym q) i)))
-  first-by b l q n s w h k t (misfit j f p r) = let e = rank-is n in let g = rank-is k in inl (omega arith)
-  first-by b l q n s w h k t (late rows r i) = let e = rank-is n in let g = rank-is k in let z = numbers-told 17 29 _ (told k t) (late-numbers (segsOf v m rows)) i .0 in inl (omega arith)
+  first-by b l q n s w h k t (misfit c o j f p r) = let e = rank-is n in let g = rank-is k in inl (omega arith)
+  first-by b l q n s w h k t (late c o rows r i) = let e = rank-is n in let g = rank-is k in let z = numbers-told 17 31 _ (told k t) (late-numbers c (segsOf v m rows)) i .0 in inl (omega arith)
 
   at-by : (l : List Told) → l ≡ tellAll (early (bareOf v m) x) → (n s : ℕ) → leastOf l ≡ fault.At n s → Lowest v m x n s
   unfolding leastOf

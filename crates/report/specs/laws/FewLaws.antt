@@ -12,7 +12,8 @@ use Rattle.service.specs.Tests.{if}
 use Rattle.segments.specs.SegmentList.{segmentsFrom, startsOf}
 use Rattle.lent.specs.Lists.{Lists}
 use Rattle.chart.specs.laws.TagsLaws.{same-count}
-use Rattle.message.specs.Segs.{Seg, segsFrom, segsOf, those, LIN, SEQ, is}
+use Rattle.message.specs.Segs.{Seg, segsFrom, segsOf, those, onRow}
+use Rattle.message.specs.Kinds.{means}
 use Rattle.message.specs.Faults.{Told, told, tell, tellAll}
 use Rattle.report.specs.declared.Counts.{Counts}
 use Rattle.report.specs.declared.Report.{Report}
@@ -65,13 +66,13 @@ module _ (v : Service) (m : List ℕ) (x : Room) where
       go (no h) = omega arith
 
 pub report-few : (v : Service) (m : List ℕ) (x x′ : Lists) (y : Report) → Reported v m x x′ y → FewIn y
-report-few v m x x′ y (accepted c rows a none e p) =
+report-few v m x x′ y (accepted c k o rows a none e p) =
     let h = few-pieces v m (roomOf x) none in
     let i = few-segs v m 1 rows (startsOf v m) in
     let j = same-count v m 0 in
-    let k = pieces-tags v m in
-    let l = few-those (is LIN) (segsOf v m rows) in
-    let n = few-those (is SEQ) (segsOf v m rows) in
+    let w = pieces-tags v m in
+    let l = few-those (onRow (means k .lin)) (segsOf v m rows) in
+    let n = few-those (onRow (means k .seq)) (segsOf v m rows) in
     let q = ap (λ (z : Counts). z .segments) e in
     let r = ap (λ (z : Counts). z .orders) e in
     let t = ap (λ (z : Counts). z .payments) e in

@@ -21,9 +21,9 @@ use Rattle.interchange.specs.declared.Refusal.{Refusal}
 use Rattle.interchange.specs.Messages.{endsClosed}
 use Rattle.lent.specs.Lists.{Lists}
 use Rattle.chart.specs.Tags.{tagsOf}
-use Rattle.chart.specs.Paymul.{PAYMUL}
+use Rattle.kinds.specs.Kinds.{tableOf}
 use Rattle.chart.proofs.Whole.{placed-rows}
-use Rattle.chart.proofs.Paymul.{paymul-sound}
+use Rattle.chart.proofs.Tables.{sound}
 use Rattle.message.specs.Segs.{segsOf}
 use Rattle.message.specs.Faults.{told}
 use Rattle.report.specs.declared.Report.{Report}
@@ -145,13 +145,13 @@ module _ (v : Service) (m : List ℕ) (long : 0 < length m) where
   -- whatever applies
   applies-place : (x : Room) (n s : ℕ) → Applies v m x n s → Place n s
   applies-place x n s (soon i) = all-told Place (early (bareOf v m) x) (told n s) (early-places x) i
-  applies-place x n s (misfit j g p q) = λ k e. let w = g .within in let z = pieces-tags v m in record { some = omega arith; ten = λ y. absurd (omega arith) }
-  applies-place x n s (late rows r i) = λ k e.
-      let w = late-within v m rows n s i .1 in
-      let a = ap length (placed-rows PAYMUL paymul-sound (tagsOf v m) rows (r .placement)) in
-      let b = rows-are v m in
+  applies-place x n s (misfit c o j g p q) = λ k e. let w = g .within in let z = pieces-tags v m in record { some = omega arith; ten = λ y. absurd (omega arith) }
+  applies-place x n s (late c o rows r i) = λ k e.
+      let w = late-within c v m rows n s i .1 in
+      let a = ap length (placed-rows (tableOf c) (sound c) (tagsOf v m) rows (r .placement)) in
+      let b = rows-are (tableOf c) v m in
       let z = pieces-tags v m in
-      let u = numbers-told 17 29 _ (told n s) (late-numbers (segsOf v m rows)) i .0 in
+      let u = numbers-told 17 31 _ (told n s) (late-numbers c (segsOf v m rows)) i .0 in
       record { some = omega arith; ten = λ y. absurd (omega arith) }
 
   offset-start : (n k : ℕ) → (n ≡ 10 → ⊥) → offsetOf v m n (suc k) ≡ startAt v m k
@@ -179,7 +179,7 @@ module _ (v : Service) (m : List ℕ) (long : 0 < length m) where
 
   module _ (x x′ : Lists) where
     place-by : (y : Report) → Reported v m x x′ y → (f : Refusal) → y ≡ Refused f → (f .segment ≡ 0 → f .offset ≡ 0) × ((k : ℕ) → f .segment ≡ suc k → Points v m f k)
-    place-by y (accepted c rows a free e p) f z = absurd (let w : _≡_ {A = ℕ} 0 1 = cc in omega arith)
+    place-by y (accepted c i o rows a free e p) f z = absurd (let w : _≡_ {A = ℕ} 0 1 = cc in omega arith)
     place-by y (refused g l o p) f z =
         let w : g ≡ f = cc in
         subst (λ (f : Refusal). (f .segment ≡ 0 → f .offset ≡ 0) × ((k : ℕ) → f .segment ≡ suc k → Points v m f k)) w

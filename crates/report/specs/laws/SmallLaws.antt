@@ -6,12 +6,17 @@ use mathlib.Core.Bool.{Bool, true, false, not, _&&_, _||_}
 use lib.Dec.{eqb}
 use lib.ListN.{length}
 use Rattle.service.specs.declared.Service.{Service}
-use Rattle.service.specs.Tests.{if}
+use Rattle.service.specs.Tests.{if, alike}
 use Rattle.values.specs.Text.{sameList, says}
 use Rattle.values.specs.forms.Values.{amountOf}
 use Rattle.segments.specs.SegmentList.{startsOf}
 use Rattle.message.specs.Segs.{Seg, Stretch, segsFrom, segsOf, those, until, stretches, each, LIN, MOA5, CUX5, FII6, NAD7, PRC10, SEQ, MOA11, FII12, NAD13, PRC16, FTX16, DOC17, CNT, UNT, is, orders, payments, details}
-use Rattle.message.specs.Rules.{writes, capitals, isOf, worth, count, some, reference, qualifier, amount, currency, cuxHolds, sum, named, party, orderHolds, paymentHolds, detailsHold, fault21, fault23, fault24, fault25, fault26, fault27B, fault27C, fault28B, fault28C, unless, failing, misnumbered, rule17, rule18, rule20, rule21, rule22, rule23, rule24, rule25, rule26, rule27, rule28, rule29, paymul}
+use Rattle.message.specs.Rules.{writes, capitals, isOf, worth, count, some, reference, qualifier, amount, currency, cuxHolds, sum, named, party, orderHolds, paymentHolds, detailsHold, fault21, fault23, fault24, fault25, fault26, fault27B, fault27C, fault28B, fault28C, unless, failing, misnumbered, rule17, rule18, rule20, rule21, rule22, rule23, rule24, rule25, rule26, rule27, rule28, rule29, paymulOf}
+use Rattle.message.specs.Advices as advice
+use Rattle.message.specs.Advices.{rule30, rule31, preAdvice, dateHolds, fault31, fault31C, debmulOf}
+use Rattle.kinds.specs.declared.Kind.{Kind}
+use Rattle.kinds.specs.declared.Kind.the-variants.{Paymul, Debmul}
+use Rattle.message.specs.Kinds.{means, rulesFor}
 use Rattle.message.specs.Faults.{told, tellAll}
 use Rattle.report.specs.Reported.{In}
 use Rattle.report.specs.laws.ToldLaws.{Every, All, all-told}
@@ -79,10 +84,10 @@ module _ (b : ℕ) where
   head-and : (t : Bool) (u k : Seg → Bool) (s : Seg) (ss : List Seg) → Within b (s .nth) → Segs b ss → Places b (unless t s ++ failing u (those k ss))
   head-and t u k s ss h g = append-within (unless t s) (failing u (those k ss)) (unless-within t s h) (failing-within u (those k ss) (those-within k ss g))
 
-  rules-within : (m : List Seg) → Segs b m → All (λ n. Within b) (paymul m)
+  paymul-within : (k n : ℕ) (m : List Seg) → Segs b m → All (λ n. Within b) (paymulOf k n m)
   unfolding rule17 rule18 rule20 rule21 rule22 rule23 rule24 rule25 rule26 rule27 rule28 rule29
-  rules-within m h = (
-    failing-within (λ s. writes (s .value 1 0) (length m)) (those (is UNT) m) (those-within (is UNT) m h),
+  paymul-within k n m h = (
+    failing-within (λ s. writes (s .value 1 0) k) (those (is UNT) m) (those-within (is UNT) m h),
     (
       failing-within (λ s. sameList (s .value 2 0) (reference m)) (those (is UNT) m) (those-within (is UNT) m h),
       (
@@ -108,7 +113,7 @@ module _ (b : ℕ) where
                             (each-within fault28B (λ s ss p q. failing-within (λ u. not (some (is PRC10) ss)) (those (is PRC16) ss) (those-within (is PRC16) ss q)) (is LIN) (is LIN) m h)
                             (each-within fault28C (λ s ss p q. unless-within (detailsHold (s .value 1 0) (some (is FTX16) ss) (some (is DOC17) ss)) s p) (is PRC16) (λ s. is LIN s || is SEQ s || is PRC16 s) m h),
                         (
-                          failing-within (λ s. writes (s .value 1 1) (count (is LIN) m)) (those (λ s. is CNT s && says (s .value 1 0) "2") m) (those-within (λ s. is CNT s && says (s .value 1 0) "2") m h),
+                          failing-within (λ s. writes (s .value 1 1) n) (those (λ s. is CNT s && says (s .value 1 0) "2") m) (those-within (λ s. is CNT s && says (s .value 1 0) "2") m h),
                           tt,
                         ),
                       ),
@@ -123,6 +128,21 @@ module _ (b : ℕ) where
     ),
   )
 
+  debmul-within : (k : ℕ) (m : List Seg) → Segs b m → All (λ n. Within b) (debmulOf k m)
+  unfolding rule17 rule18 rule20 rule30 rule31
+  debmul-within k m h =
+      let unts = those-within (advice.is advice.UNT) m h in
+      let count = failing-within (λ s. writes (s .value 1 0) k) (those (advice.is advice.UNT) m) unts in
+      let named = failing-within (λ s. sameList (s .value 2 0) (reference m)) (those (advice.is advice.UNT) m) unts in
+      let lines = numbered-within 1 1 (those (advice.is advice.LIN) m) (those-within (advice.is advice.LIN) m h) in
+      let dates = failing-within (λ s. dateHolds (preAdvice m) (s .value 1 0)) (those (advice.is advice.DTM4) m) (those-within (advice.is advice.DTM4) m h) in
+      let references = each-within fault31 (λ o body p q. each-within (fault31C (o .value 2 0)) (λ s ss p′ q′. unless-within (alike (some (advice.is advice.RFF11) ss) (not (says (o .value 2 0) "106"))) s p′) (advice.is advice.SEQ) (advice.is advice.SEQ) body q) (advice.is advice.LIN) (advice.is advice.LIN) m h in
+      (count, (named, (lines, (dates, (references, tt)))))
+
+  rules-within : (c : Kind) (k n : ℕ) (m : List Seg) → Segs b m → All (λ n. Within b) (means c .rules k n m)
+  rules-within Paymul k n m h = paymul-within k n m h
+  rules-within Debmul k n m h = debmul-within k m h
+
 -- the segments of a message
 segs-within : (v : Service) (m : List ℕ) (b n : ℕ) (rs is : List ℕ) → 1 ≤ n → n + length rs ≤ suc b → Segs b (segsFrom v m n rs is)
 unfolding segsFrom
@@ -130,7 +150,7 @@ segs-within v m b n [] is h g = tt
 segs-within v m b n (r ∷ rs) [] h g = tt
 segs-within v m b n (r ∷ rs) (i ∷ is) h g = ((h, omega arith), segs-within v m b (suc n) rs is (omega arith) (omega arith))
 
--- so a refusal under 17 to 29 names a segment of the message
-pub late-within : (v : Service) (m rows : List ℕ) (n s : ℕ) → In (told n s) (tellAll (paymul (segsOf v m rows))) → Within (length rows) s
-late-within v m rows n s i =
-    all-told (λ n. Within (length rows)) (paymul (segsOf v m rows)) (told n s) (rules-within (length rows) (segsOf v m rows) (segs-within v m (length rows) 1 rows (startsOf v m) (omega arith) (omega arith))) i
+-- so a refusal under 17 to 31 names a segment of the message
+pub late-within : (c : Kind) (v : Service) (m rows : List ℕ) (n s : ℕ) → In (told n s) (tellAll (rulesFor c (segsOf v m rows))) → Within (length rows) s
+late-within c v m rows n s i =
+    all-told (λ n. Within (length rows)) (rulesFor c (segsOf v m rows)) (told n s) (rules-within (length rows) c _ _ (segsOf v m rows) (segs-within v m (length rows) 1 rows (startsOf v m) (omega arith) (omega arith))) i

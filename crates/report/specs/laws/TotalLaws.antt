@@ -1,4 +1,4 @@
--- On the chart every order has its own MOA exactly once: rows 23 are as many as rows 17. Assumes nothing.
+-- On the PAYMUL chart every order has its own MOA exactly once: rows 23 are as many as rows 17. Assumes nothing.
 use Prim.Native.Nat.{ℕ, suc, _+_, _≤_}
 use native.Mathlib.Omega.{arith}
 use mathlib.Core.Path.{_≡_, refl, sym, ap, _∙_, subst}
@@ -10,7 +10,7 @@ use Rattle.service.specs.Tests.{if}
 use Rattle.chart.specs.Chart.{Rows, none, row, Placement, no-rows, row-then, Occurrences, no-more, one-then}
 use Rattle.table.specs.Entries.{linesFrom, within, text}
 use Rattle.chart.specs.Table.{chartOf, rowOver, inside}
-use Rattle.chart.specs.Paymul.{PAYMUL, chart, table}
+use Rattle.paymul.specs.Table.{PAYMUL, table}
 use Rattle.chart.proofs.Theory.{and-left, and-right}
 use Rattle.report.specs.laws.CountLaws.{times}
 
@@ -33,7 +33,7 @@ paired a b (row num tag req most others rest) =
     and (not (eqb num a)) (and (if (eqb num b) (and (lacksRow b others) (oneRow a others)) (paired a b others)) (paired a b rest))
 
 -- THE COMPUTED TEST
-chart-paired : T (paired 23 17 chart)
+chart-paired : T (paired 23 17 (chartOf PAYMUL))
 unfolding paired oneRow lacksRow PAYMUL table linesFrom within text chartOf rowOver inside
 chart-paired = tt
 
@@ -142,5 +142,5 @@ mutual
       times-other a num nos g ∙ ap (times a) q ∙ times-append a ns ms ∙ sym (times-other b num nos (subst (λ (c : Bool). T (not c)) (sym e) tt) ∙ ap (times b) q ∙ times-append b ns ms ∙ omega arith)
 
 -- as many own MOAs as orders
-pub own-moas : (ts ns : List ℕ) → Placement chart ts ns → times 23 ns ≡ times 17 ns
+pub own-moas : (ts ns : List ℕ) → Placement (chartOf PAYMUL) ts ns → times 23 ns ≡ times 17 ns
 own-moas ts ns p = paired-rows 23 17 chart-paired p

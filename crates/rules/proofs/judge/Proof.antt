@@ -1,6 +1,7 @@
 -- `rules::judge` meets its contract. Assumes nothing.
 use Rattle.rules.specs.laws.StepLaws.{Judging, judging-first, judging-fits, judging-next, judging-end, judged}
-use Rattle.rules.specs.laws.RowLaws.{left-trailer, left-numbering, left-amounts, left-parties, left-details}
+use Rattle.rules.specs.laws.RowLaws.{left-numbering, left-amounts, left-parties, left-details}
+use Rattle.trailer.specs.laws.StepLaws.{step-unt, step-other}
 use Rattle.amounts.specs.forms.Steps.{sumsOf}
 use Rattle.chart.specs.laws.CursorLaws.{onward-less}
 use borrow.Author.Needs.{needs}
@@ -112,7 +113,7 @@ loop-again c =
     let l = r .before .before .loop in
     let m = r .before .before .before .before .before .before .before .before .before .before .args .m .now in
     judging-next _ _ _ _ _ _ _ _ _ _ _ _ _ _ (l .inv) (r .before .loop-test .taken) _ refl _ (r .next-row .ensures) _ (c .step6 .ensures) _ _ _ _ _
-    (⊎-elim (λ w. w .2 ∙ w .1 .ensures) (λ w. left-trailer _ m _ _ (l .at) _ _ _ (w .1) (w .0 .left)) (u .if1 .came))
+    (⊎-elim (λ w. step-unt _ _ _ _ _ m _ _ (l .at) _ (w .0 .taken) (w .2 ∙ w .1 .ensures)) (λ w. step-other _ _ _ _ _ m _ _ (l .at) _ (w .0 .left) (w .1)) (u .if1 .came))
     (⊎-elim (λ w. w .2 ∙ w .1 .ensures) (λ w. left-numbering _ m _ _ (l .at) _ (w .0 .left) (n .before .on-numbers .ensures) _ _ _ (w .1)) (n .if2 .came))
     (⊎-elim (λ w. ap (sumsOf _ m) (w .2) ∙ w .1 .ensures .0) (λ w. left-amounts _ m _ _ (l .at) _ (w .0 .left) (a .before .on-amounts .ensures) _ _ (w .1)) (a .if3 .came))
     (⊎-elim (λ w. w .2 ∙ w .1 .ensures) (λ w. left-parties _ m _ _ (l .at) _ (w .0 .left) (p .before .on-parties .ensures) _ _ (w .1)) (p .if4 .came))

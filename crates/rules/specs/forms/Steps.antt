@@ -8,7 +8,7 @@ use Rattle.faults.specs.declared.First.{First}
 use Rattle.faults.specs.declared.Fault.{Fault}
 use Rattle.faults.specs.declared.Fault.the-variants as fault
 use Rattle.faults.specs.Firsts.{numberFirst}
-use Rattle.message.specs.Segs.{Seg, segAt, LIN, MOA5, CUX5, FII6, NAD7, PRC10, SEQ, MOA11, FII12, NAD13, PRC16, FTX16, DOC17, CNT, rowOf}
+use Rattle.message.specs.Segs.{Seg, segAt, LIN, MOA5, CUX5, FII6, NAD7, PRC10, SEQ, MOA11, FII12, NAD13, PRC16, FTX16, DOC17, CNT, UNT, rowOf}
 use Rattle.values.specs.Numbers.{valueIn}
 use Rattle.trailer.specs.declared.Trailer.{Trailer}
 use Rattle.trailer.specs.forms.Steps.{trailerStart, trailerStep}
@@ -41,7 +41,7 @@ allStart v m = stateOf v m trailerStart numberingStart sumsStart partiesStart de
 -- of a message of k segments with n LIN segments
 unfoldable pub allStep : Service → List ℕ → ℕ → ℕ → All → Seg → All
 allStep v m k n st s = record {
-  trailer = trailerStep k (valueIn v 0 m 1 0) (st .trailer) s;
+  trailer = trailerStep (rowOf UNT) k (valueIn v 0 m 1 0) (st .trailer) s;
   numbering = numberingStep n (st .numbering) s;
   amounts = sumsStep (none v m) (st .amounts) s;
   parties = partiesStep (st .parties) s;

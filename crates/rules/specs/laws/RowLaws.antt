@@ -9,11 +9,7 @@ use types.Run.{OneOf}
 use borrow.Author.Tests.{eq-eqb, ne-eqb}
 use Rattle.service.specs.declared.Service.{Service}
 use Rattle.service.specs.Service.{among}
-use Rattle.values.specs.Numbers.{valueIn}
 use Rattle.message.specs.Segs.{segAt}
-use Rattle.trailer.specs.declared.Trailer.{Trailer}
-use Rattle.trailer.specs.forms.Steps.{trailerStep}
-use Rattle.trailer.specs.laws.StepLaws as trailer
 use Rattle.numbering.specs.declared.Numbering.{Numbering}
 use Rattle.numbering.specs.forms.Steps.{numberingStep}
 use Rattle.numbering.specs.laws.StepLaws as numbering
@@ -61,9 +57,6 @@ module _ (ks ls : List ℕ) (r : ℕ) where
 
 -- ---- at any other row a step leaves the state
 module _ (v : Service) (m : List ℕ) (nth r i : ℕ) where
-  pub left-trailer : (k : ℕ) (st x : Trailer) → x ≡ st → (r ≡ 112 → ⊥) → x ≡ trailerStep k (valueIn v 0 m 1 0) st (segAt v m nth r i)
-  left-trailer k st x q h = q ∙ trailer.step-other k (valueIn v 0 m 1 0) st v m nth r i h
-
   module _ (b : Bool) (f : b ≡ false) where
     pub left-numbering : b ≡ onNumbers r → (o : ℕ) (st x : Numbering) → x ≡ st → x ≡ numberingStep o st (segAt v m nth r i)
     left-numbering g o st x q =

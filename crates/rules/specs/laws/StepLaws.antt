@@ -14,23 +14,14 @@ use Rattle.faults.specs.Firsts.{numberFirst}
 use Rattle.chart.specs.declared.Cursor.{Cursor}
 use Rattle.chart.specs.forms.Cursor.{CursorIs, Stepped}
 use Rattle.chart.specs.Table.{Table}
-use Rattle.chart.specs.Tags.{tagsFrom}
-use Rattle.segments.specs.SegmentList.{startsFrom}
 use Rattle.chart.specs.forms.Next.{nextRow}
-use Rattle.segments.specs.declared.Segment.{Segment}
-use Rattle.segments.specs.declared.Segment.the-variants.{Finished, Unfinished, Nothing}
-use Rattle.segments.specs.forms.Segments.{segmentAt}
-use Rattle.parts.specs.Parts.{lex, elements, valueAt}
 use Rattle.values.specs.Numbers.{valueIn}
-use Rattle.chart.specs.forms.Machine.{rowsBy}
-use Rattle.chart.specs.laws.TagsLaws.{tags-past, tags-finished, tags-unfinished}
-use Rattle.segments.specs.laws.SegmentsLaws.{something}
-use Rattle.segments.specs.laws.StartsLaws.{starts-finished, starts-unfinished}
-use Rattle.message.specs.Segs.{Seg, segAt, segsFrom}
-use Rattle.message.specs.Rules.{reference, paymulOf}
+use Rattle.message.specs.Segs.{Seg, segAt, rowOf, UNT}
+use Rattle.message.specs.Rules.{paymulOf}
 use Rattle.message.specs.Faults.{rank, tellAll, leastOf}
 use Rattle.message.specs.forms.Run.{run}
 use Rattle.message.specs.laws.FaultLaws.{Rising, by-rules}
+use Rattle.message.specs.laws.PlacedLaws.{reference-first}
 use Rattle.message.specs.laws.LoopLaws.{Runs, runs-first, runs-fits, runs-next, runs-end}
 use Rattle.trailer.specs.declared.Trailer.{Trailer}
 use Rattle.trailer.specs.forms.Steps.{trailerStart, trailerStep}
@@ -48,7 +39,7 @@ use Rattle.parties.specs.laws.Agree.{agree27}
 use Rattle.details.specs.declared.Details.{Details}
 use Rattle.details.specs.forms.Steps.{detailsStart, detailsStep, detailsClose}
 use Rattle.details.specs.laws.Agree.{agree28}
-use Rattle.rules.specs.Placed.{placedOn}
+use Rattle.message.specs.Placed.{placedOn}
 use Rattle.rules.specs.forms.Steps.{All, none, allStart, stateOf, allStep, trailerFirst, numbersFirst, amountsFirst, leastFirst}
 
 -- ---- the loop: nth segments are passed
@@ -65,7 +56,7 @@ module _ (t : Table) (v : Service) (m : List ℕ) (k o : ℕ) where
     judging-fits h g = let e = j .here in let l : c .at < length m = omega arith in runs-fits (allStep v m k o) t v m _ nth row c (stateOf v m u n a p d) (j .runs) l g
 
     pub judging-next : at < length m → (w : ℕ) → w ≡ nth + 1 → (x : ℕ) → x ≡ nextRow t row (c .tag) → (e : Cursor) → Stepped v m c e → (u′ : Trailer) (n′ : Numbering) (a′ : Amounts) (p′ : Parties) (d′ : Details)
-        → u′ ≡ trailerStep k (valueIn v 0 m 1 0) u (segAt v m w x at) → n′ ≡ numberingStep o n (segAt v m w x at) → sumsOf v m a′ ≡ sumsStep (none v m) (sumsOf v m a) (segAt v m w x at) → p′ ≡ partiesStep p (segAt v m w x at) → d′ ≡ detailsStep d (segAt v m w x at)
+        → u′ ≡ trailerStep (rowOf UNT) k (valueIn v 0 m 1 0) u (segAt v m w x at) → n′ ≡ numberingStep o n (segAt v m w x at) → sumsOf v m a′ ≡ sumsStep (none v m) (sumsOf v m a) (segAt v m w x at) → p′ ≡ partiesStep p (segAt v m w x at) → d′ ≡ detailsStep d (segAt v m w x at)
         → Judging t v m k o u′ n′ a′ p′ d′ x w e (e .at)
     unfolding allStep
     judging-next h w q x f e s u′ n′ a′ p′ d′ h0 h1 h2 h3 h4 =
@@ -80,7 +71,7 @@ module _ (t : Table) (v : Service) (m : List ℕ) (k o : ℕ) where
 -- ---- the run of all is each rule's run
 parts : (v : Service) (m : List ℕ) (k n : ℕ) (st : All) (ss : List Seg)
     → run (allStep v m k n) st ss
-    ≡ record { trailer = run (trailerStep k (valueIn v 0 m 1 0)) (st .trailer) ss; numbering = run (numberingStep n) (st .numbering) ss; amounts = run (sumsStep (none v m)) (st .amounts) ss; parties = run partiesStep (st .parties) ss; details = run detailsStep (st .details) ss }
+    ≡ record { trailer = run (trailerStep (rowOf UNT) k (valueIn v 0 m 1 0)) (st .trailer) ss; numbering = run (numberingStep n) (st .numbering) ss; amounts = run (sumsStep (none v m)) (st .amounts) ss; parties = run partiesStep (st .parties) ss; details = run detailsStep (st .details) ss }
 unfolding run allStep
 parts v m k n st [] = refl
 parts v m k n st (s ∷ ss) = parts v m k n (allStep v m k n st s) ss
@@ -103,26 +94,14 @@ numbers-by n o b c h1 h2 = rw (h2, h1)
 pub amounts-by : (a : Amounts) (o b c d e f : Fault) → b ≡ numberFirst 26 (a .first26) o → c ≡ numberFirst 25 (a .first25) b → d ≡ numberFirst 24 (a .first24) c → e ≡ numberFirst 23 (a .first23) d → f ≡ numberFirst 22 (a .first22) e → f ≡ amountsFirst a o
 amounts-by a o b c d e f h1 h2 h3 h4 h5 = rw (h5, h4, h3, h2, h1)
 
--- ---- the first segment begins the message
-none-here : (t : Table) (v : Service) (m : List ℕ) (n prev : ℕ) → (0 < length m → ⊥) → valueIn v 0 m 1 0 ≡ reference (segsFrom v m n (rowsBy (nextRow t) prev (tagsFrom v m 0)) (startsFrom v m 0))
-unfolding rowsBy segsFrom lex elements valueAt
-none-here t v [] n prev h = rw (tags-past v [] 0 (omega arith))
-none-here t v (b ∷ m) n prev h = absurd (h (omega arith))
-
-first-starts : (t : Table) (v : Service) (m : List ℕ) (n prev : ℕ) (k : Segment) → k ≡ segmentAt v 0 m → valueIn v 0 m 1 0 ≡ reference (segsFrom v m n (rowsBy (nextRow t) prev (tagsFrom v m 0)) (startsFrom v m 0))
-unfolding rowsBy segsFrom
-first-starts t v m n prev (Finished f j) e = rw (tags-finished v m 0 (Finished f j) e f j refl, starts-finished v m 0 (Finished f j) e f j refl)
-first-starts t v m n prev Unfinished e = rw (tags-unfinished v m 0 Unfinished e refl, starts-unfinished v m 0 Unfinished e refl)
-first-starts t v m n prev Nothing e = none-here t v m n prev (λ h. something v m 0 h (sym e))
-
 module _ (t : Table) (v : Service) (m : List ℕ) (k o : ℕ) (u : Trailer) (n : Numbering) (a : Amounts) (p : Parties) (d : Details) (q : stateOf v m u n a p d ≡ run (allStep v m k o) (allStart v m) (placedOn t v m)) where
   abbrev segs : List Seg
   segs = placedOn t v m
 
-  all : stateOf v m u n a p d ≡ record { trailer = run (trailerStep k (valueIn v 0 m 1 0)) trailerStart segs; numbering = run (numberingStep o) numberingStart segs; amounts = run (sumsStep (none v m)) (sumsOf v m sumsStart) segs; parties = run partiesStep partiesStart segs; details = run detailsStep detailsStart segs }
+  all : stateOf v m u n a p d ≡ record { trailer = run (trailerStep (rowOf UNT) k (valueIn v 0 m 1 0)) trailerStart segs; numbering = run (numberingStep o) numberingStart segs; amounts = run (sumsStep (none v m)) (sumsOf v m sumsStart) segs; parties = run partiesStep partiesStart segs; details = run detailsStep detailsStart segs }
   all = q ∙ parts v m k o (allStart v m) segs
 
-  is-trailer : u ≡ run (trailerStep k (valueIn v 0 m 1 0)) trailerStart segs
+  is-trailer : u ≡ run (trailerStep (rowOf UNT) k (valueIn v 0 m 1 0)) trailerStart segs
   is-trailer = ap (λ (x : All). x .trailer) all
 
   is-numbering : n ≡ run (numberingStep o) numberingStart segs
@@ -154,8 +133,8 @@ module _ (t : Table) (v : Service) (m : List ℕ) (k o : ℕ) (u : Trailer) (n :
           ap (λ (x : Sums). x .first25) closed ∙ agree25 (none v m) (heldOf v m noOrder) segs,
           ap (λ (x : Sums). x .first26) closed ∙ agree26 (none v m) (heldOf v m noOrder) segs,
           is-trailer,
-          agree17 k (valueIn v 0 m 1 0) segs,
-          agree18 k (valueIn v 0 m 1 0) segs (first-starts t v m 1 0 (segmentAt v 0 m) refl),
+          agree17 (rowOf UNT) k (valueIn v 0 m 1 0) segs,
+          agree18 (rowOf UNT) k (valueIn v 0 m 1 0) segs (reference-first t v m),
           is-numbering,
           agree20 o segs,
           agree21 o segs,

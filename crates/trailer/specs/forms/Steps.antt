@@ -6,7 +6,7 @@ use Rattle.values.specs.Text.{sameList}
 use Rattle.faults.specs.declared.First.{First}
 use Rattle.faults.specs.declared.First.the-variants as first
 use Rattle.faults.specs.Firsts.{lesser, placeUnless}
-use Rattle.message.specs.Segs.{Seg, UNT, is}
+use Rattle.message.specs.Segs.{Seg, onRow}
 use Rattle.message.specs.Rules.{writes}
 use Rattle.message.specs.forms.Run.{testStep}
 use Rattle.trailer.specs.declared.Trailer.{Trailer}
@@ -23,9 +23,9 @@ countIs n s = writes (s .value 1 0) n
 abbrev pub referenceIs : List ℕ → Seg → Bool
 referenceIs l s = sameList (s .value 2 0) l
 
--- of a message of n segments whose UNH has the reference l
-unfoldable pub trailerStep : ℕ → List ℕ → Trailer → Seg → Trailer
-trailerStep n l st s = trailerOf (testStep (is UNT) (countIs n) (st .first17) s) (testStep (is UNT) (referenceIs l) (st .first18) s)
+-- of a message of n segments whose UNH has the reference l and whose UNT has the row unt
+unfoldable pub trailerStep : ℕ → ℕ → List ℕ → Trailer → Seg → Trailer
+trailerStep unt n l st s = trailerOf (testStep (onRow unt) (countIs n) (st .first17) s) (testStep (onRow unt) (referenceIs l) (st .first18) s)
 
 -- what one UNT, the nth segment, with these values makes of a state
 abbrev pub taken : ℕ → List ℕ → Trailer → (ℕ → ℕ → List ℕ) → ℕ → Trailer

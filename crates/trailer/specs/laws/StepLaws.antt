@@ -3,7 +3,7 @@ use Prim.Native.Nat.{ℕ}
 use mathlib.Core.Path.{_≡_}
 use mathlib.Core.List.{List}
 use mathlib.Core.Bool.{Bool}
-use borrow.Author.Tests.{ne-eqb}
+use borrow.Author.Tests.{eq-eqb, ne-eqb}
 use Rattle.service.specs.declared.Service.{Service}
 use Rattle.values.specs.Numbers.{valueIn}
 use Rattle.values.specs.Text.{sameList}
@@ -19,10 +19,12 @@ pub taken-by : (n : ℕ) (l : List ℕ) (st : Trailer) (value : ℕ → ℕ → 
     → trailerOf f g ≡ taken n l st value nth
 taken-by n l st value nth t u f g h1 h2 h3 h4 = rw (h2, h4, h1, h3)
 
-pub step-unt : (n : ℕ) (l : List ℕ) (st : Trailer) (v : Service) (m : List ℕ) (nth row i : ℕ) (r : Trailer) → row ≡ 112 → r ≡ taken n l st (valueIn v i m) nth → r ≡ trailerStep n l st (segAt v m nth row i)
-unfolding trailerStep testStep
-step-unt n l st v m nth row i r e q = rw e q
+-- where a UNT stands, a step is what it makes of the state; elsewhere the state stays
+module _ (unt n : ℕ) (l : List ℕ) (st : Trailer) (v : Service) (m : List ℕ) (nth row i : ℕ) (r : Trailer) where
+  pub step-unt : row ≡ unt → r ≡ taken n l st (valueIn v i m) nth → r ≡ trailerStep unt n l st (segAt v m nth row i)
+  unfolding trailerStep testStep
+  step-unt e q = rw (eq-eqb row unt e) q
 
-pub step-other : (n : ℕ) (l : List ℕ) (st : Trailer) (v : Service) (m : List ℕ) (nth row i : ℕ) → (row ≡ 112 → ⊥) → st ≡ trailerStep n l st (segAt v m nth row i)
-unfolding trailerStep testStep
-step-other n l st v m nth row i e = rw (ne-eqb row 112 e)
+  pub step-other : (row ≡ unt → ⊥) → r ≡ st → r ≡ trailerStep unt n l st (segAt v m nth row i)
+  unfolding trailerStep testStep
+  step-other e q = rw (ne-eqb row unt e) q

@@ -63,6 +63,9 @@ UNZ = letters "UNZ"
 abbrev pub PAYMUL : ℕ
 PAYMUL = letters "PAYMUL"
 
+abbrev pub DEBMUL : ℕ
+DEBMUL = letters "DEBMUL"
+
 abbrev pub D : ℕ
 D = letters "D"
 
@@ -121,3 +124,19 @@ HUNDRED = letters "100"
 
 abbrev pub THOUSAND : ℕ
 THOUSAND = letters "1000"
+
+-- ---- codes of an advice, in digits
+abbrev pub HUNDRED-SIX : ℕ
+HUNDRED-SIX = letters "106"
+
+abbrev pub TWO-HUNDRED-TWO : ℕ
+TWO-HUNDRED-TWO = letters "202"
+
+abbrev pub TWO-HUNDRED-NINE : ℕ
+TWO-HUNDRED-NINE = letters "209"
+
+abbrev pub THREE-HUNDRED-FORTY-TWO : ℕ
+THREE-HUNDRED-FORTY-TWO = letters "342"
+
+abbrev pub FOUR-HUNDRED-FIFTY-FIVE : ℕ
+FOUR-HUNDRED-FIFTY-FIVE = letters "455"

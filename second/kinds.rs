@@ -1,0 +1,307 @@
+//! The two types of message, PAYMUL and DEBMUL (the bank's debit advice), and the chart of each.
+//!
+//! The tables are taken from 003 for PAYMUL and from 000 for DEBMUL: order and nesting from section 2.2,
+//! status (the D6 column) and number of repeats from the segments' pages.
+
+use crate::chart::{Chart, Row};
+use std::sync::OnceLock;
+
+#[derive(Clone, Copy, PartialEq, Eq, Debug)]
+pub enum Kind {
+    Paymul,
+    Debmul,
+}
+
+pub const KINDS: [Kind; 2] = [Kind::Paymul, Kind::Debmul];
+
+impl Kind {
+    /// As UNH names it.
+    pub fn name(self) -> &'static str {
+        match self {
+            Kind::Paymul => "PAYMUL",
+            Kind::Debmul => "DEBMUL",
+        }
+    }
+
+    pub fn chart(self) -> &'static Chart {
+        static CHARTS: [OnceLock<Chart>; 2] = [OnceLock::new(), OnceLock::new()];
+        match self {
+            Kind::Paymul => CHARTS[0].get_or_init(|| Chart::of(&PAYMUL)),
+            Kind::Debmul => CHARTS[1].get_or_init(|| Chart::of(&DEBMUL)),
+        }
+    }
+
+    /// LIN's row, which begins level B.
+    pub fn lin(self) -> u16 {
+        17
+    }
+
+    /// SEQ's row, which begins level C.
+    pub fn seq(self) -> u16 {
+        match self {
+            Kind::Paymul => 50,
+            Kind::Debmul => 43,
+        }
+    }
+
+    /// The last row of SG4; CNT's row comes after it.
+    pub fn last_of_sg4(self) -> u16 {
+        match self {
+            Kind::Paymul => 107,
+            Kind::Debmul => 119,
+        }
+    }
+
+    pub fn cnt(self) -> u16 {
+        self.last_of_sg4() + 1
+    }
+
+    /// UNT's row, the last one.
+    pub fn unt(self) -> u16 {
+        self.chart().rows().len() as u16
+    }
+}
+
+#[rustfmt::skip]
+pub const PAYMUL: [Row; 112] = [
+    (1, "UNH", "UNH", 0, 'M', 1),
+    (2, "BGM", "BGM", 0, 'M', 1),
+    (3, "DTM", "DTM", 0, 'M', 1),
+    (4, "BUS", "BUS", 0, 'N', 1),
+    (5, "SG1", "RFF", 0, 'D', 2),
+    (6, "RFF", "RFF", 5, 'M', 1),
+    (7, "DTM", "DTM", 5, 'O', 1),
+    (8, "SG2", "FII", 0, 'O', 5),
+    (9, "FII", "FII", 8, 'M', 1),
+    (10, "CTA", "CTA", 8, 'N', 1),
+    (11, "COM", "COM", 8, 'N', 5),
+    (12, "SG3", "NAD", 0, 'O', 3),
+    (13, "NAD", "NAD", 12, 'M', 1),
+    (14, "CTA", "CTA", 12, 'O', 1),
+    (15, "COM", "COM", 12, 'O', 5),
+    (16, "SG4", "LIN", 0, 'M', 9999),
+    (17, "LIN", "LIN", 16, 'M', 1),
+    (18, "DTM", "DTM", 16, 'R', 1),
+    (19, "RFF", "RFF", 16, 'R', 2),
+    (20, "BUS", "BUS", 16, 'D', 1),
+    (21, "FCA", "FCA", 16, 'D', 1),
+    (22, "SG5", "MOA", 16, 'R', 1),
+    (23, "MOA", "MOA", 22, 'M', 1),
+    (24, "CUX", "CUX", 22, 'D', 1),
+    (25, "DTM", "DTM", 22, 'D', 2),
+    (26, "RFF", "RFF", 22, 'D', 1),
+    (27, "SG6", "FII", 16, 'M', 1),
+    (28, "FII", "FII", 27, 'M', 1),
+    (29, "CTA", "CTA", 27, 'N', 1),
+    (30, "COM", "COM", 27, 'N', 5),
+    (31, "SG7", "NAD", 16, 'O', 3),
+    (32, "NAD", "NAD", 31, 'M', 1),
+    (33, "CTA", "CTA", 31, 'O', 1),
+    (34, "COM", "COM", 31, 'O', 5),
+    (35, "SG8", "INP", 16, 'O', 1),
+    (36, "INP", "INP", 35, 'M', 1),
+    (37, "FTX", "FTX", 35, 'O', 1),
+    (38, "DTM", "DTM", 35, 'O', 2),
+    (39, "SG9", "GIS", 16, 'D', 10),
+    (40, "GIS", "GIS", 39, 'M', 1),
+    (41, "MOA", "MOA", 39, 'O', 1),
+    (42, "LOC", "LOC", 39, 'O', 2),
+    (43, "NAD", "NAD", 39, 'O', 1),
+    (44, "RCS", "RCS", 39, 'O', 1),
+    (45, "FTX", "FTX", 39, 'O', 10),
+    (46, "SG10", "PRC", 16, 'D', 1),
+    (47, "PRC", "PRC", 46, 'M', 1),
+    (48, "FTX", "FTX", 46, 'M', 1),
+    (49, "SG11", "SEQ", 16, 'M', 9999),
+    (50, "SEQ", "SEQ", 49, 'M', 1),
+    (51, "MOA", "MOA", 49, 'M', 1),
+    (52, "DTM", "DTM", 49, 'O', 1),
+    (53, "RFF", "RFF", 49, 'R', 3),
+    (54, "PAI", "PAI", 49, 'O', 1),
+    (55, "FCA", "FCA", 49, 'D', 1),
+    (56, "SG12", "FII", 49, 'D', 3),
+    (57, "FII", "FII", 56, 'M', 1),
+    (58, "CTA", "CTA", 56, 'N', 1),
+    (59, "COM", "COM", 56, 'N', 5),
+    (60, "SG13", "NAD", 49, 'O', 3),
+    (61, "NAD", "NAD", 60, 'M', 1),
+    (62, "CTA", "CTA", 60, 'O', 1),
+    (63, "COM", "COM", 60, 'O', 5),
+    (64, "SG14", "INP", 49, 'O', 3),
+    (65, "INP", "INP", 64, 'M', 1),
+    (66, "FTX", "FTX", 64, 'D', 1),
+    (67, "DTM", "DTM", 64, 'O', 2),
+    (68, "SG15", "GIS", 49, 'D', 10),
+    (69, "GIS", "GIS", 68, 'M', 1),
+    (70, "MOA", "MOA", 68, 'O', 1),
+    (71, "LOC", "LOC", 68, 'O', 2),
+    (72, "NAD", "NAD", 68, 'O', 1),
+    (73, "RCS", "RCS", 68, 'O', 1),
+    (74, "FTX", "FTX", 68, 'O', 10),
+    (75, "SG16", "PRC", 49, 'D', 1),
+    (76, "PRC", "PRC", 75, 'M', 1),
+    (77, "FTX", "FTX", 75, 'D', 5),
+    (78, "SG17", "DOC", 75, 'D', 9999),
+    (79, "DOC", "DOC", 78, 'M', 1),
+    (80, "MOA", "MOA", 78, 'O', 5),
+    (81, "DTM", "DTM", 78, 'O', 5),
+    (82, "RFF", "RFF", 78, 'O', 5),
+    (83, "NAD", "NAD", 78, 'O', 2),
+    (84, "SG18", "CUX", 78, 'O', 5),
+    (85, "CUX", "CUX", 84, 'M', 1),
+    (86, "DTM", "DTM", 84, 'O', 1),
+    (87, "SG19", "AJT", 78, 'O', 100),
+    (88, "AJT", "AJT", 87, 'M', 1),
+    (89, "MOA", "MOA", 87, 'M', 1),
+    (90, "RFF", "RFF", 87, 'O', 1),
+    (91, "FTX", "FTX", 87, 'O', 5),
+    (92, "SG20", "DLI", 78, 'O', 1000),
+    (93, "DLI", "DLI", 92, 'M', 1),
+    (94, "MOA", "MOA", 92, 'M', 5),
+    (95, "PIA", "PIA", 92, 'O', 5),
+    (96, "DTM", "DTM", 92, 'O', 5),
+    (97, "SG21", "CUX", 92, 'O', 5),
+    (98, "CUX", "CUX", 97, 'M', 1),
+    (99, "DTM", "DTM", 97, 'O', 1),
+    (100, "SG22", "AJT", 92, 'O', 10),
+    (101, "AJT", "AJT", 100, 'M', 1),
+    (102, "MOA", "MOA", 100, 'M', 1),
+    (103, "RFF", "RFF", 100, 'O', 1),
+    (104, "FTX", "FTX", 100, 'O', 5),
+    (105, "SG23", "GIS", 75, 'O', 1),
+    (106, "GIS", "GIS", 105, 'M', 1),
+    (107, "MOA", "MOA", 105, 'O', 5),
+    (108, "CNT", "CNT", 0, 'R', 5),
+    (109, "SG24", "AUT", 0, 'O', 5),
+    (110, "AUT", "AUT", 109, 'M', 1),
+    (111, "DTM", "DTM", 109, 'R', 1),
+    (112, "UNT", "UNT", 0, 'M', 1),
+];
+
+#[rustfmt::skip]
+pub const DEBMUL: [Row; 124] = [
+    (1, "UNH", "UNH", 0, 'M', 1),
+    (2, "BGM", "BGM", 0, 'M', 1),
+    (3, "DTM", "DTM", 0, 'M', 1),
+    (4, "BUS", "BUS", 0, 'N', 1),
+    (5, "SG1", "RFF", 0, 'D', 2),
+    (6, "RFF", "RFF", 5, 'M', 1),
+    (7, "DTM", "DTM", 5, 'O', 1),
+    (8, "SG2", "FII", 0, 'O', 5),
+    (9, "FII", "FII", 8, 'M', 1),
+    (10, "CTA", "CTA", 8, 'N', 1),
+    (11, "COM", "COM", 8, 'N', 5),
+    (12, "SG3", "NAD", 0, 'O', 3),
+    (13, "NAD", "NAD", 12, 'M', 1),
+    (14, "CTA", "CTA", 12, 'O', 1),
+    (15, "COM", "COM", 12, 'O', 5),
+    (16, "SG4", "LIN", 0, 'M', 9999),
+    (17, "LIN", "LIN", 16, 'M', 1),
+    (18, "DTM", "DTM", 16, 'R', 3),
+    (19, "BUS", "BUS", 16, 'O', 1),
+    (20, "MOA", "MOA", 16, 'M', 2),
+    (21, "SG5", "RFF", 16, 'M', 3),
+    (22, "RFF", "RFF", 21, 'M', 1),
+    (23, "DTM", "DTM", 21, 'O', 1),
+    (24, "SG6", "FII", 16, 'M', 1),
+    (25, "FII", "FII", 24, 'M', 1),
+    (26, "CTA", "CTA", 24, 'N', 1),
+    (27, "COM", "COM", 24, 'N', 5),
+    (28, "SG7", "FCA", 16, 'D', 5),
+    (29, "FCA", "FCA", 28, 'M', 1),
+    (30, "MOA", "MOA", 28, 'D', 2),
+    (31, "SG8", "ALC", 28, 'D', 6),
+    (32, "ALC", "ALC", 31, 'M', 1),
+    (33, "PCD", "PCD", 31, 'O', 1),
+    (34, "MOA", "MOA", 31, 'R', 2),
+    (35, "CUX", "CUX", 31, 'N', 1),
+    (36, "DTM", "DTM", 31, 'N', 1),
+    (37, "SG9", "TAX", 31, 'O', 5),
+    (38, "TAX", "TAX", 37, 'M', 1),
+    (39, "MOA", "MOA", 37, 'O', 2),
+    (40, "CUX", "CUX", 37, 'D', 1),
+    (41, "DTM", "DTM", 37, 'O', 1),
+    (42, "SG10", "SEQ", 16, 'R', 9999),
+    (43, "SEQ", "SEQ", 42, 'M', 1),
+    (44, "DTM", "DTM", 42, 'O', 3),
+    (45, "BUS", "BUS", 42, 'O', 1),
+    (46, "FII", "FII", 42, 'M', 2),
+    (47, "SG11", "RFF", 42, 'D', 5),
+    (48, "RFF", "RFF", 47, 'M', 1),
+    (49, "DTM", "DTM", 47, 'O', 1),
+    (50, "SG12", "PAI", 42, 'O', 1),
+    (51, "PAI", "PAI", 50, 'M', 1),
+    (52, "FTX", "FTX", 50, 'O', 1),
+    (53, "SG13", "MOA", 42, 'M', 4),
+    (54, "MOA", "MOA", 53, 'M', 1),
+    (55, "CUX", "CUX", 53, 'D', 1),
+    (56, "DTM", "DTM", 53, 'O', 2),
+    (57, "RFF", "RFF", 53, 'D', 1),
+    (58, "SG14", "NAD", 42, 'O', 3),
+    (59, "NAD", "NAD", 58, 'M', 1),
+    (60, "CTA", "CTA", 58, 'O', 1),
+    (61, "COM", "COM", 58, 'O', 5),
+    (62, "SG15", "INP", 42, 'O', 3),
+    (63, "INP", "INP", 62, 'M', 1),
+    (64, "FTX", "FTX", 62, 'O', 1),
+    (65, "DTM", "DTM", 62, 'O', 2),
+    (66, "SG16", "GIS", 42, 'O', 10),
+    (67, "GIS", "GIS", 66, 'M', 1),
+    (68, "MOA", "MOA", 66, 'O', 1),
+    (69, "LOC", "LOC", 66, 'O', 2),
+    (70, "NAD", "NAD", 66, 'O', 1),
+    (71, "RCS", "RCS", 66, 'O', 1),
+    (72, "FTX", "FTX", 66, 'O', 10),
+    (73, "SG17", "FCA", 42, 'D', 5),
+    (74, "FCA", "FCA", 73, 'M', 1),
+    (75, "MOA", "MOA", 73, 'D', 2),
+    (76, "SG18", "ALC", 73, 'O', 20),
+    (77, "ALC", "ALC", 76, 'M', 1),
+    (78, "PCD", "PCD", 76, 'O', 1),
+    (79, "MOA", "MOA", 76, 'R', 2),
+    (80, "CUX", "CUX", 76, 'N', 1),
+    (81, "DTM", "DTM", 76, 'N', 1),
+    (82, "SG19", "TAX", 76, 'O', 5),
+    (83, "TAX", "TAX", 82, 'M', 1),
+    (84, "MOA", "MOA", 82, 'O', 2),
+    (85, "CUX", "CUX", 82, 'O', 1),
+    (86, "DTM", "DTM", 82, 'O', 1),
+    (87, "SG20", "PRC", 42, 'O', 1),
+    (88, "PRC", "PRC", 87, 'M', 1),
+    (89, "FTX", "FTX", 87, 'D', 5),
+    (90, "SG21", "DOC", 87, 'D', 9999),
+    (91, "DOC", "DOC", 90, 'M', 1),
+    (92, "MOA", "MOA", 90, 'O', 5),
+    (93, "DTM", "DTM", 90, 'O', 5),
+    (94, "RFF", "RFF", 90, 'O', 5),
+    (95, "NAD", "NAD", 90, 'O', 2),
+    (96, "SG22", "CUX", 90, 'O', 5),
+    (97, "CUX", "CUX", 96, 'M', 1),
+    (98, "DTM", "DTM", 96, 'O', 1),
+    (99, "SG23", "AJT", 90, 'O', 100),
+    (100, "AJT", "AJT", 99, 'M', 1),
+    (101, "MOA", "MOA", 99, 'O', 1),
+    (102, "RFF", "RFF", 99, 'O', 1),
+    (103, "FTX", "FTX", 99, 'O', 5),
+    (104, "SG24", "DLI", 90, 'O', 9999),
+    (105, "DLI", "DLI", 104, 'M', 1),
+    (106, "MOA", "MOA", 104, 'O', 5),
+    (107, "PIA", "PIA", 104, 'O', 5),
+    (108, "DTM", "DTM", 104, 'O', 5),
+    (109, "SG25", "CUX", 104, 'O', 5),
+    (110, "CUX", "CUX", 109, 'M', 1),
+    (111, "DTM", "DTM", 109, 'O', 1),
+    (112, "SG26", "AJT", 104, 'O', 10),
+    (113, "AJT", "AJT", 112, 'M', 1),
+    (114, "MOA", "MOA", 112, 'O', 1),
+    (115, "RFF", "RFF", 112, 'O', 1),
+    (116, "FTX", "FTX", 112, 'O', 5),
+    (117, "SG27", "GIS", 87, 'O', 1),
+    (118, "GIS", "GIS", 117, 'M', 1),
+    (119, "MOA", "MOA", 117, 'O', 5),
+    (120, "CNT", "CNT", 0, 'R', 5),
+    (121, "SG28", "AUT", 0, 'O', 5),
+    (122, "AUT", "AUT", 121, 'M', 1),
+    (123, "DTM", "DTM", 121, 'R', 1),
+    (124, "UNT", "UNT", 0, 'M', 1),
+];
