@@ -1,11 +1,13 @@
 //! The comparison: many inputs, many calls on each, all answers against this program's own.
 
 use crate::driver::{self, escape, Answers, Call, Case, Difference, Head, Part, Tally};
+use crate::hits::{Hits, Mark, Walked};
 use crate::inputs::{self, Input};
 use crate::interchange::{check, close, open, survey, walk, Step};
 use crate::kinds::Kind;
 use crate::make::{self, extents};
 use crate::make_advice;
+use crate::make_hits;
 use crate::message::{self, Lists};
 use crate::random::Random;
 use crate::report;
@@ -18,6 +20,8 @@ pub struct Options {
     pub driver: Vec<String>,
     pub payreport: Vec<String>,
     pub cases: usize,
+    /// How many interchanges have messages hit (W-213).
+    pub hits: usize,
     pub reports: usize,
     pub seed: u64,
     /// How many differences are shown in full.
@@ -60,6 +64,16 @@ fn one_short(random: &mut Random, need: Lists) -> Lists {
         _ => lists.totals = short(need.totals),
     }
     lists
+}
+
+/// Lists for a message: mostly enough.
+pub fn some_lists(random: &mut Random, message: &[u8], service: syntax::Service) -> Lists {
+    let need = need(message, service);
+    if random.chance(80) {
+        enough(random, need)
+    } else {
+        one_short(random, need)
+    }
 }
 
 /// The calls to make on an input.
@@ -226,6 +240,68 @@ fn own_laws(input: &Input) -> Vec<String> {
     wrong
 }
 
+/// What was counted of interchanges with messages hit.
+#[derive(Default)]
+struct HitCounts {
+    interchanges: u64,
+    near: u64,
+    far: u64,
+    /// Hit directly after another that is hit, and those of them where that one is hit far.
+    neighbours: u64,
+    after_far: u64,
+    /// Whole messages found again: in this program's answers, and in the library's.
+    own: u64,
+    library: u64,
+    /// The messages directly after one hit far.
+    next_found: u64,
+    next_lost: u64,
+    /// Interchanges whose last message is hit far.
+    refused: u64,
+    opened: u64,
+}
+
+impl HitCounts {
+    fn count(&mut self, hits: &Hits, after: &Walked<Step>) {
+        self.interchanges += 1;
+        let found = after.found();
+        let hit = |mark: &Mark| mark.stretch().is_some();
+        for (i, mark) in hits.marks.iter().enumerate() {
+            match mark {
+                Mark::Whole => {}
+                Mark::Near(_) => self.near += 1,
+                Mark::Far(_) => self.far += 1,
+                Mark::Next if found.contains(&hits.moved(i)) => self.next_found += 1,
+                Mark::Next => self.next_lost += 1,
+            }
+            self.neighbours += u64::from(i > 0 && hit(mark) && hit(&hits.marks[i - 1]));
+            self.after_far += u64::from(i > 0 && hit(mark) && matches!(hits.marks[i - 1], Mark::Far(_)));
+        }
+        if hits.last_far() {
+            match after.opening {
+                0 => self.opened += 1,
+                4 => self.refused += 1,
+                _ => {}
+            }
+        }
+    }
+
+    /// Prints the counts; whether each of them was met.
+    fn summary(&self, called: bool) -> bool {
+        println!(
+            "messages hit: in {} interchanges, before the UNT {}, up to its terminator {}, directly after another hit {}, one hit up to its terminator {}",
+            self.interchanges, self.near, self.far, self.neighbours, self.after_far
+        );
+        println!(
+            "  whole messages found again {}, by the library {}; next to one hit up to its terminator: found {}, lost {}",
+            self.own, self.library, self.next_found, self.next_lost
+        );
+        println!("  the last one hit up to its terminator: refused by 4 {}, opened {}", self.refused, self.opened);
+        let own = [self.interchanges, self.near, self.far, self.neighbours, self.after_far, self.own];
+        let rest = [self.next_found, self.next_lost, self.refused, self.opened];
+        own.iter().chain(&rest).all(|n| *n > 0) && (!called || self.library == self.own)
+    }
+}
+
 /// Everything that was counted.
 struct Run<'a> {
     options: &'a Options,
@@ -239,6 +315,7 @@ struct Run<'a> {
     batch_bytes: usize,
     /// How often the driver stopped before its last answer.
     stops: u64,
+    hits: HitCounts,
 }
 
 impl Run<'_> {
@@ -441,6 +518,67 @@ impl Run<'_> {
         }
     }
 
+    /// Interchanges with messages hit: inputs as any other, and W-213's claim on them, for this program's answers and
+    /// for the library's.
+    fn hits(&mut self, random: &mut Random) {
+        let mut waiting = Vec::new();
+        for i in 0..self.options.hits {
+            let hits = make_hits::hits(random, i % 300 == 0);
+            let input = Input { label: "hit".to_string(), bytes: hits.damaged.clone(), segments: None, good: false };
+            self.input(random, &input, false);
+            let [before, after] = hits.own_answers();
+            self.hits.count(&hits, &after);
+            match hits.opens_alike().and_then(|()| hits.claim(&before, &after)) {
+                Ok(wholes) => self.hits.own += wholes as u64,
+                Err(wrong) => self.harmed(&hits, "this program", &wrong),
+            }
+            waiting.push((hits, [before, after]));
+            if waiting.len() == 200 {
+                self.ask_library(random, &std::mem::take(&mut waiting));
+            }
+        }
+        self.ask_library(random, &waiting);
+    }
+
+    /// The claim for the library: the same calls as for this program, its answers before the damage against its answers
+    /// after.
+    fn ask_library(&mut self, random: &mut Random, waiting: &[(Hits, [Walked<Step>; 2])]) {
+        if self.options.driver.is_empty() {
+            return;
+        }
+        let mut requests = Vec::new();
+        for (hits, [before, after]) in waiting {
+            before.case(&hits.bytes, random.below(2) as u8).requests(&mut requests);
+            after.case(&hits.damaged, random.below(2) as u8).requests(&mut requests);
+        }
+        let (output, errors, _) = driver::run(&self.options.driver, &requests);
+        let mut answers = Answers::new(&output);
+        for (hits, [before, after]) in waiting {
+            let (Some(before), Some(after)) = (before.answered(&mut answers), after.answered(&mut answers)) else {
+                self.harmed(hits, "the library", &format!("the driver stopped: {errors}"));
+                return;
+            };
+            match hits.claim(&before, &after) {
+                Ok(wholes) => self.hits.library += wholes as u64,
+                Err(wrong) => self.harmed(hits, "the library", &wrong),
+            }
+        }
+        assert!(answers.all_read(), "the driver gave more answers than were asked for");
+    }
+
+    fn harmed(&mut self, hits: &Hits, whose: &str, wrong: &str) {
+        self.differences += 1;
+        if self.differences > self.options.show as u64 {
+            return;
+        }
+        println!("DIFFERENCE {} (messages hit, answers of {whose}): {wrong}", self.differences);
+        println!("  before: \"{}\"", escape(&hits.bytes, 3000));
+        for stretch in hits.marks.iter().filter_map(Mark::stretch) {
+            println!("  {}..{} becomes \"{}\"", stretch.from, stretch.upto, escape(&stretch.put, 500));
+        }
+        println!("  after:  \"{}\"", escape(&hits.damaged, 3000));
+    }
+
     fn report(&mut self, input: &Input) {
         self.reports += 1;
         let must = report::report(&input.bytes);
@@ -473,6 +611,7 @@ pub fn run(options: &Options) -> bool {
         batch_calls: 0,
         batch_bytes: 0,
         stops: 0,
+        hits: HitCounts::default(),
     };
 
     if options.limits {
@@ -521,6 +660,7 @@ pub fn run(options: &Options) -> bool {
             run.report(&input);
         }
     }
+    run.hits(&mut Random::new(options.seed));
     run.flush();
     summary(&run)
 }
@@ -571,5 +711,9 @@ fn summary(run: &Run) -> bool {
     }
     // without the inputs at the limits some numbers cannot be met
     let all_met = missing.is_empty();
-    run.differences == 0 && (!called || all_met || !run.options.limits)
+    let hits_met = run.options.hits == 0 || run.hits.summary(called);
+    if !hits_met {
+        println!("messages hit: some count is 0, or the library's is another");
+    }
+    run.differences == 0 && hits_met && (!called || all_met || !run.options.limits)
 }

@@ -1,6 +1,6 @@
 //! Talking to the C driver: requests, answers, and what the answers must be.
 
-use crate::interchange::{self, Step};
+use crate::interchange::{self, Extent, Step};
 use crate::message::{Lists, Report};
 use crate::rewrite;
 use std::io::{Read, Write};
@@ -192,6 +192,31 @@ impl<'a> Answers<'a> {
         let letter = self.letter()?;
         assert_eq!(letter, wanted, "the driver's answers are out of step");
         Some(())
+    }
+
+    /// The answer to opening.
+    pub fn opening(&mut self) -> Option<u32> {
+        self.expect_letter(b'o')?;
+        Some(self.numbers(1)?[0])
+    }
+
+    /// An answer to the walk as it was given: what was found, and the bytes of all else, the lists included.
+    pub fn step(&mut self, lists: &Lists) -> Option<(Option<Extent>, Vec<u8>)> {
+        self.expect_letter(b'w')?;
+        let (head, mut rest) = (self.numbers(3)?, self.take(4 * 6)?.to_vec());
+        let flag = self.letter()?;
+        rest.push(flag);
+        if flag & 1 != 0 {
+            rest.extend(self.take(2 * lists.rows + 4 * lists.starts + 8 * lists.totals)?);
+        }
+        let found = match head[..] {
+            [1, start, end] => Some(Extent { start: start as usize, end: end as usize }),
+            _ => {
+                rest.extend(head.iter().flat_map(|n| n.to_le_bytes()));
+                None
+            }
+        };
+        Some((found, rest))
     }
 
     /// The numbers of an answer with lists, and what is wrong with the lists.

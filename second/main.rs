@@ -6,17 +6,20 @@ mod compare;
 mod damage;
 mod damage_advice;
 mod driver;
+mod hits;
 mod inputs;
 mod interchange;
 mod kinds;
 mod make;
 mod make_advice;
+mod make_hits;
 mod message;
 mod random;
 mod report;
 mod rewrite;
 mod selftest;
 mod selftest_advice;
+mod selftest_hits;
 mod syntax;
 mod tables;
 mod tables_advice;
@@ -27,8 +30,8 @@ const USAGE: &str = "usage:
   second selftest
   second report < FILE                      what payreport must print
   second lines < FILE                       the same lines for an interchange of any size, with long lists
-  second compare [--driver WORDS] [--payreport WORDS] [--cases N] [--reports N] [--seed S]
-                 [--show N] [--keep FOLDER] [--no-limits]
+  second compare [--driver WORDS] [--payreport WORDS] [--cases N] [--hits N] [--reports N]
+                 [--seed S] [--show N] [--keep FOLDER] [--no-limits]
   second generate [--seed S] [--kind realistic|advices|regular|good|damaged|rewritten] [--bytes N]
 WORDS is one argument: a command and its arguments, separated by spaces.";
 
@@ -44,6 +47,7 @@ fn main() {
         driver: vec![],
         payreport: vec![],
         cases: 3_500,
+        hits: 900,
         reports: 250,
         seed: 1,
         show: 10,
@@ -64,6 +68,7 @@ fn main() {
             "--driver" => options.driver = words(),
             "--payreport" => options.payreport = words(),
             "--cases" => options.cases = number() as usize,
+            "--hits" => options.hits = number() as usize,
             "--reports" => options.reports = number() as usize,
             "--seed" => options.seed = number(),
             "--show" => options.show = number() as usize,

@@ -1,5 +1,5 @@
 //! Document 01's example and its cases 1 to 12, and a few other sentences of it, on this program itself. Those
-//! of debit advices are in `selftest_advice.rs`.
+//! of debit advices are in `selftest_advice.rs`, those of messages hit in `selftest_hits.rs`.
 
 use crate::chart;
 use crate::interchange::{check, close, open, walk, Step};
@@ -9,6 +9,7 @@ use crate::random::Random;
 use crate::report::report;
 use crate::rewrite::rewrite;
 use crate::selftest_advice;
+use crate::selftest_hits;
 use crate::syntax::*;
 
 pub struct Tests {
@@ -92,6 +93,7 @@ pub fn run() -> bool {
         t.hold(&format!("the rows of {}", kind.name()), same);
     }
     selftest_advice::run(&mut t);
+    selftest_hits::run(&mut t);
     samples(&mut t);
 
     // opening

@@ -1,16 +1,18 @@
 -- The three demands of document 01, in their order and words: each field is a demand, or a sentence of one, on the contracts of the calls. `met` of DemandsMet proves it.
 use Prim.Native.Nat.{ℕ, _≤_}
 use mathlib.Core.Path.{_≡_}
-use mathlib.Core.List.{List, _∷_, _++_}
+use mathlib.Core.Logic.{_⊎_}
+use mathlib.Core.List.{List, [], _∷_, _++_}
 use mathlib.Core.Bool.{true}
 use lib.ListN.{length}
 use Rattle.service.specs.declared.Service.{Service}
 use Rattle.values.specs.Exactly.{Exactly}
 use Rattle.interchange.specs.declared.Refusal.{Refusal}
+use Rattle.interchange.specs.declared.Opening.the-variants.{Refused}
 use Rattle.interchange.specs.Messages.{Extent, closed, messagesOf}
-use Rattle.interchange.specs.Envelope.{bodyOf}
-use Rattle.interchange.specs.Opened.{Opened}
-use Rattle.interchange.specs.Damage.{lastClosed}
+use Rattle.interchange.specs.Envelope.{refusal, bodyOf}
+use Rattle.interchange.specs.Opened.{Opened, OpenedAs}
+use Rattle.interchange.specs.Damage.{lastClosed, Stretch, Mark, next, hit, replaced, damaged, Within}
 use Rattle.lent.specs.Lists.{Lists}
 use Rattle.report.specs.declared.Counts.{Counts}
 use Rattle.report.specs.declared.Report.{Report}
@@ -21,8 +23,9 @@ use Rattle.rewrite.specs.Plain.{valuesOf, rewritten, rewritingOf, roomAfter}
 use Rattle.demands.specs.Answering.{Answering}
 use Rattle.demands.specs.Refusals.{Refusals}
 use Rattle.demands.specs.Accepting.{Accepting}
-use Rattle.demands.specs.OtherMessages.{Chosen, Damaged, Unharmed}
+use Rattle.demands.specs.OtherMessages.{Chosen, Unharmed, One, only}
 use Rattle.demands.specs.Predecessor.{Predecessor}
+use Rattle.demands.specs.DamageCases.{DamageCases}
 use Rattle.demands.specs.Verdicts.{Keeps}
 use Rattle.demands.specs.Cases.{Cases}
 use Rattle.demands.specs.AdviceCases.{AdviceCases}
@@ -52,12 +55,22 @@ pub record Demands : Type 0 where
   pub rewriting : (s : List ℕ) (v : Service) (first : ℕ) → Opened s v first → length (rewritten s) ≤ 1048576 → Keeps s v first
   -- ---- demand 3: "Damage to one message, from its UNH up to but excluding the terminator before its UNT, leaves each other message found, in order, with the report
   -- of its own bytes."
-  pub damage : (s : List ℕ) (v : Service) (first : ℕ) (before : List Extent) (a t e : ℕ) (after : List Extent) → Chosen s v first before a t e after
-      → (p q : ℕ) (d s′ : List ℕ) → Damaged s a t p q d s′ → Unharmed v s s′ first a before after
-  -- of every message that has its own UNT, as has the one before it, if there is one; and why that is asked of the one before
+  pub damage : (s : List ℕ) (v : Service) (first : ℕ) (before : List Extent) (a t z e : ℕ) (after : List Extent) → One s v first before a t z e after
+      → (c : Stretch) → Within a t c → length (replaced s c) ≤ 1048576 → Unharmed v s (replaced s c) first (only before (hit c ∷ []) after)
+  -- "if the replaced stretch reaches up to but excluding the terminator of the UNT itself, and the message is not the last, then every message from the second after it is still found and
+  -- reported as by its own bytes, and so is every earlier one; the message directly after may be lost"
+  pub reaching : (s : List ℕ) (v : Service) (first : ℕ) (before : List Extent) (a t z e : ℕ) (m : Extent) (after : List Extent) → One s v first before a t z e (m ∷ after)
+      → (c : Stretch) → Within a z c → length (replaced s c) ≤ 1048576 → Unharmed v s (replaced s c) first (only before (hit c ∷ next ∷ []) after)
+  -- "The first form also holds for several damaged messages at once, each with these premises", and so does the second: both of the above are special cases
+  pub several : (s : List ℕ) (v : Service) (first : ℕ) (k : List Mark) → Chosen s v first k → Unharmed v s (damaged s k) first k
+  -- "If the last message is hit this way the interchange may be refused by 4": so it is, or it opens as it did
+  pub last-hit : (s : List ℕ) (v : Service) (first : ℕ) (before : List Extent) (a t z e : ℕ) → One s v first before a t z e [] → (c : Stretch) → Within a z c
+      → length (replaced s c) ≤ 1048576 → Opened (replaced s c) v first ⊎ OpenedAs (replaced s c) (Refused (refusal 4))
+  -- all this of every message that has its own UNT, as has the one before it, if there is one; why that is asked of the one before; and small files
   pub any : (s : List ℕ) (v : Service) (first : ℕ) (before : List Extent) (a e : ℕ) (after : List Extent) → Opened s v first
-      → messagesOf v s (bodyOf v s first) ≡ before ++ (closed a e ∷ after) → lastClosed true before ≡ true → (t : ℕ) × Chosen s v first before a t e after
+      → messagesOf v s (bodyOf v s first) ≡ before ++ (closed a e ∷ after) → lastClosed true before ≡ true → (t z : ℕ) × One s v first before a t z e after
   pub predecessor : Predecessor
+  pub damaged-files : DamageCases
   -- ---- "How firm the answers are": "no second answer satisfies it"; "These must not get through"; and "Cases": "twelve rows under a single statement"
   pub one : OneAnswer
   pub wrong : WrongReaders

@@ -8,6 +8,7 @@ pub mod OneAnswer
 pub mod Refusals
 pub mod Accepting
 pub mod Predecessor
+pub mod DamageCases
 pub mod WrongReaders
 pub mod Answering
 pub mod Demands

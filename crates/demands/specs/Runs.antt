@@ -1,5 +1,5 @@
 -- A walk over an interchange, call by call.
-use Prim.Native.Nat.{ℕ, _+_, _-_}
+use Prim.Native.Nat.{ℕ}
 use mathlib.Core.Path.{_≡_}
 use mathlib.Core.List.{List, [], _∷_}
 use Rattle.service.specs.declared.Service.{Service}
@@ -42,7 +42,3 @@ pub record Told (v : Service) (b : List ℕ) (x : Lists) (m : Extent) (w : Visit
 pub data Over (v : Service) (b : List ℕ) (x : Lists) : List Extent → List Visit → Type 0 where
   none : Over v b x [] []
   also : (m : Extent) (w : Visit) (ms : List Extent) (l : List Visit) → Told v b x m w → Over v b x ms l → Over v b x (m ∷ ms) (w ∷ l)
-
--- a visit of a message behind a place where a text of n bytes became one of n′ bytes: the same report and the same lists, further on or less far
-abbrev pub moved : ℕ → ℕ → Visit → Visit
-moved n n′ w = record { start = w .start + n′ - n; end = w .end + n′ - n; given = w .given }

@@ -2,6 +2,7 @@ pub mod AcceptingLaws
 pub mod AdviceCasesLaws
 pub mod AnsweringLaws
 pub mod CasesLaws
+pub mod DamageCasesLaws
 pub mod DamageWhole
 pub mod DemandsMet
 pub mod MessageCasesLaws

@@ -7,8 +7,10 @@ pub mod DamageTheorem
 pub mod EndedLaws
 pub mod FindLaws
 pub mod FirstLaws
+pub mod HitsTheorem
 pub mod KeptTheorem
 pub mod KindLaws
+pub mod LastLaws
 pub mod MessageLaws
 pub mod NearLaws
 pub mod OpenLaws

@@ -18,8 +18,9 @@ use Rattle.demands.specs.laws.AdviceCasesLaws.{advice-cases}
 use Rattle.demands.specs.laws.AnsweringLaws.{answering}
 use Rattle.demands.specs.laws.RefusalsLaws.{refusals}
 use Rattle.demands.specs.laws.AcceptingLaws.{accepting}
-use Rattle.demands.specs.laws.DamageWhole.{other-messages, chosen}
+use Rattle.demands.specs.laws.DamageWhole.{other-messages, single, reaching, last-hit, any-one}
 use Rattle.demands.specs.laws.PredecessorLaws.{predecessor}
+use Rattle.demands.specs.laws.DamageCasesLaws.{damage-cases}
 use Rattle.demands.specs.laws.WrongReadersLaws.{wrong-readers}
 use Rattle.demands.specs.laws.RewriteKeeps.{keeps}
 use Rattle.demands.specs.laws.CasesLaws as cases
@@ -63,9 +64,13 @@ met = record {
   twice = λ s o n e. rewrites-again s n o e;
   equal-values = one-to-one;
   rewriting = λ s v first o h. keeps s v first (opens s v first o) h;
-  damage = other-messages;
-  any = chosen;
+  damage = single;
+  reaching = reaching;
+  several = other-messages;
+  last-hit = last-hit;
+  any = any-one;
   predecessor = predecessor;
+  damaged-files = damage-cases;
   one = one.one;
   wrong = wrong-readers;
   cases = cases.cases;

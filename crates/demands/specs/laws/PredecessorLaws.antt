@@ -1,12 +1,12 @@
--- The case holds. Assumes nothing.
+-- The cases hold. Assumes nothing.
 use Prim.Native.Nat.{ℕ}
 use native.Mathlib.Omega.{arith}
-use mathlib.Core.Path.{_≡_, refl, sym, _∙_}
+use mathlib.Core.Path.{_≡_, refl, sym, _∙_, ap}
 use mathlib.Core.List.{List, [], _∷_}
 use Rattle.service.specs.Tests.{lastOf}
 use Rattle.service.specs.Service.{plainService, beginsUna, charactersOf}
 use Rattle.segments.specs.Classes.{classOf}
-use Rattle.segments.specs.SegmentList.{pieces}
+use Rattle.segments.specs.SegmentList.{pieces, segmentsAfter}
 use Rattle.parts.specs.Parts.{lex, elements, valueAt, valueOf}
 use Rattle.values.specs.Text.{text, sameList}
 use Rattle.interchange.specs.declared.Opening.the-variants.{Opens}
@@ -14,56 +14,82 @@ use Rattle.interchange.specs.Messages.{Extent, closed, unclosed, startsAt, ends
 use Rattle.interchange.specs.Envelope.{isReference, isHeader, firstAt, bodyOf}
 use Rattle.interchange.specs.forms.Answers.{openedBy, openingOf}
 use Rattle.interchange.specs.laws.OpenedLaws.{opened}
-use Rattle.interchange.specs.Damage.{Before, here, later}
+use Rattle.interchange.specs.Damage.{Before, here, later, Mark, whole, replaced, Beside}
+use Rattle.interchange.specs.Damage as damage
 use Rattle.walk.specs.Frame.{message, stepAt, stepFrom}
-use Rattle.demands.specs.Runs.{Steps, done, next}
-use Rattle.demands.specs.OtherMessages.{Damaged}
-use Rattle.demands.specs.Predecessor.{whole, hurt, Predecessor}
+use Rattle.demands.specs.Runs.{Steps}
+use Rattle.demands.specs.Runs as runs
+use Rattle.demands.specs.OtherMessages.{Unhurt}
+use Rattle.demands.specs.Predecessor.{four, fourMessages, nearer, farther, Predecessor}
 
-opens : openingOf whole ≡ Opens plainService 0
+opens : openingOf four ≡ Opens plainService 0
 unfolding text charactersOf beginsUna openingOf openedBy firstAt isHeader isReference lastOf tagAt pieces classOf lex valueOf elements valueAt sameList
 opens = refl
 
-opens-still : openingOf hurt ≡ Opens plainService 0
+near-opens : openingOf (replaced four nearer) ≡ Opens plainService 0
 unfolding text charactersOf beginsUna openingOf openedBy firstAt isHeader isReference lastOf tagAt pieces classOf lex valueOf elements valueAt sameList
-opens-still = refl
+near-opens = refl
 
-was : messagesOf plainService whole (bodyOf plainService whole 0) ≡ unclosed 21 27 ∷ closed 27 45 ∷ closed 45 59 ∷ []
+far-opens : openingOf (replaced four farther) ≡ Opens plainService 0
+unfolding text charactersOf beginsUna openingOf openedBy firstAt isHeader isReference lastOf tagAt pieces classOf lex valueOf elements valueAt sameList
+far-opens = refl
+
+was : messagesOf plainService four (bodyOf plainService four 0) ≡ fourMessages
 unfolding text messagesOf extentOf tagAt pieces classOf lex valueOf sameList
 was = refl
 
-is : messagesOf plainService hurt (bodyOf plainService hurt 0) ≡ closed 21 39 ∷ closed 39 53 ∷ []
+near-is : messagesOf plainService (replaced four nearer) (bodyOf plainService (replaced four nearer) 0) ≡ closed 21 39 ∷ closed 39 53 ∷ closed 53 67 ∷ []
 unfolding text messagesOf extentOf tagAt pieces classOf lex valueOf sameList
-is = refl
+near-is = refl
 
-precedes : Before 36 44 (bodyOf plainService whole 0)
+far-is : messagesOf plainService (replaced four farther) (bodyOf plainService (replaced four farther) 0) ≡ unclosed 21 31 ∷ closed 31 45 ∷ closed 45 59 ∷ []
+unfolding text messagesOf extentOf tagAt pieces classOf lex valueOf sameList
+far-is = refl
+
+precedes : Before 36 44 (segmentsAfter plainService four 27)
 unfolding text pieces classOf
-precedes = later _ _ (later _ _ (here _ _ _))
+precedes = later _ _ (here _ _ _)
 
-damaged : Damaged whole 27 36 27 36 (text "FTX") hurt
-unfolding text
-damaged = record { low = omega arith; order = omega arith; high = omega arith; result = refl; short = omega arith }
-
-steps : stepFrom hurt 0 ≡ message 21 39
+near-step : stepFrom (replaced four nearer) 0 ≡ message 21 39
 unfolding text charactersOf beginsUna stepAt stepFrom foundIn cutBefore messagesOf extentOf tagAt pieces classOf lex valueOf sameList
-steps = refl
+near-step = refl
 
-first-step : {l : List Extent} → Steps hurt 0 l → (rest : List Extent) → l ≡ unclosed 21 27 ∷ rest → ⊥
-first-step (done at e) rest q = let z : _≡_ {A = ℕ} 0 1 = cc in omega arith
-first-step (next at m ms e r) rest q =
+far-step : stepFrom (replaced four farther) 0 ≡ message 21 31
+unfolding text charactersOf beginsUna stepAt stepFrom foundIn cutBefore messagesOf extentOf tagAt pieces classOf lex valueOf sameList
+far-step = refl
+
+-- what is found first, where it is told
+first-ends : (s : List ℕ) (e : ℕ) → stepFrom s 0 ≡ message 21 e → {l : List Extent} → Steps s 0 l → (m : Extent) (ms : List Extent) → l ≡ m ∷ ms → e ≡ endsAt m
+first-ends s e q (runs.done at o) m ms r = absurd (let z : _≡_ {A = ℕ} 0 1 = cc in omega arith)
+first-ends s e q (runs.next at x xs o t) m ms r =
+    let a : x ≡ m = cc in
+    let b : message 21 e ≡ message (startsAt x) (endsAt x) = sym q ∙ o in
+    cc
+
+-- a whole first message is found first, and ends where it did
+first-found : (s s′ : List ℕ) (e : ℕ) → stepFrom s′ 0 ≡ message 21 e → {k : List Mark} {l l′ : List Extent} → Steps s′ 0 l′ → Beside (Unhurt s s′) 0 0 k l l′
+    → (h : List Mark) → k ≡ whole ∷ h → (ms : List Extent) → l ≡ unclosed 21 27 ∷ ms → e ≡ 27
+first-found s s′ e q w (damage.none _ _) h f ms g = absurd (let z : _≡_ {A = ℕ} 0 1 = cc in omega arith)
+first-found s s′ e q w (damage.spared _ _ m m′ k l l′ y b) h f ms g =
     let a : m ≡ unclosed 21 27 = cc in
-    let b : message 21 39 ≡ message (startsAt m) (endsAt m) = sym steps ∙ e in
-    let c : 39 ≡ endsAt m = cc in
-    let d : endsAt m ≡ 27 = cc in
+    let c : endsAt m ≡ 27 = ap endsAt a in
+    let d = y .stays .end in
+    let i = first-ends s′ e q w m′ l′ refl in
     omega arith
+first-found s s′ e q w (damage.struck _ _ c m k l new l′ b) h f ms g = absurd (let z : _≡_ {A = ℕ} 0 1 = cc in omega arith)
+first-found s s′ e q w (damage.passed _ _ m k l new l′ b) h f ms g = absurd (let z : _≡_ {A = ℕ} 0 1 = cc in omega arith)
 
 pub predecessor : Predecessor
 predecessor = record {
-  opens = opened whole plainService 0 opens;
+  opens = opened four plainService 0 opens;
   was = was;
   precedes = precedes;
-  damaged = damaged;
-  opens-still = opened hurt plainService 0 opens-still;
-  is = is;
-  harmed = λ u. first-step (u .steps) _ refl;
+  near = record { low = omega arith; order = omega arith; high = omega arith };
+  far = record { low = omega arith; order = omega arith; high = omega arith };
+  near-opens = opened (replaced four nearer) plainService 0 near-opens;
+  near-is = near-is;
+  near-harmed = λ u. let z = first-found four (replaced four nearer) 39 near-step (u .steps) (u .each) _ refl _ was in omega arith;
+  far-opens = opened (replaced four farther) plainService 0 far-opens;
+  far-is = far-is;
+  far-harmed = λ u. let z = first-found four (replaced four farther) 31 far-step (u .steps) (u .each) _ refl _ was in omega arith;
 }

@@ -3,7 +3,7 @@ use Prim.Native.Nat.{ℕ, _+_, _-_, _≤_, _<_}
 use native.Mathlib.Omega.{arith}
 use native.Mathlib.Decide.{decLt}
 use mathlib.Core.Path.{_≡_, refl, sym, _∙_, ap, ap₂, subst}
-use mathlib.Core.List.{List, [], _∷_, _++_, map}
+use mathlib.Core.List.{List, [], _∷_, _++_}
 use lib.ListN.{length}
 use borrow.Author.Tests.{lt-ltb, le-ltb}
 use Rattle.service.specs.declared.Service.{Service}
@@ -12,7 +12,7 @@ use Rattle.segments.specs.laws.ListLaws.{segments-after}
 use Rattle.segments.specs.laws.ClearLaws.{passed, upto-start}
 use Rattle.interchange.specs.declared.Found.the-variants as found
 use Rattle.interchange.specs.declared.Opening.the-variants.{Opens}
-use Rattle.interchange.specs.Messages.{Kind, head, trailer, last, other, cut, kindOf, Extent, closed, unclosed, startsAt, endsAt, extentOf, messagesBy, messagesOf, foundFrom}
+use Rattle.interchange.specs.Messages.{Kind, head, trailer, last, other, cut, kindOf, Extent, startsAt, endsAt, extentOf, messagesBy, messagesOf, foundFrom}
 use Rattle.interchange.specs.Envelope.{refusal, bodyOf}
 use Rattle.interchange.specs.forms.Answers.{openingOf}
 use Rattle.interchange.specs.laws.OpenedLaws.{opened}
@@ -23,7 +23,8 @@ use Rattle.interchange.specs.Walk as walk
 use Rattle.interchange.specs.laws.WalkLaws.{Placed}
 use Rattle.interchange.specs.laws.WalkLaws as placed
 use Rattle.interchange.specs.laws.WalkTheorems.{header, body-is}
-use Rattle.interchange.specs.Damage.{bytesOf, shifted}
+use Rattle.interchange.specs.Damage.{bytesOf, Mark, hit, Beside, Stays}
+use Rattle.interchange.specs.Damage as damage
 use Rattle.interchange.specs.laws.OwnLaws.{message-holds}
 use Rattle.lent.specs.Lists.{Lists}
 use Rattle.report.specs.declared.Report.{Report}
@@ -34,7 +35,8 @@ use Rattle.walk.specs.declared.Walked.the-variants as walked
 use Rattle.walk.specs.Frame.{message, nothing, refused, stepBy, stepAt, stepWith, stepFrom}
 use Rattle.walk.specs.Walks.{between, Walks}
 use Rattle.walk.specs.Walks as stepping
-use Rattle.demands.specs.Runs.{Visit, Run, done, next, Steps, Owned, Told, Over, none, also, moved}
+use Rattle.demands.specs.Runs.{Visit, Run, done, next, Steps, Owned, Told, Over, none, also}
+use Rattle.demands.specs.OtherMessages.{Again}
 
 -- ---- messages lie within the bytes
 pub data Inside (n : ℕ) : List Extent → Type 0 where
@@ -153,7 +155,7 @@ pub record Split (v : Service) (s : List ℕ) (x : Lists) (ms ns : List Extent) 
   pub over-front : Over v s x ms front
   pub over-back : Over v s x ns back
 
-pub over-split : (v : Service) (s : List ℕ) (x : Lists) (ms ns : List Extent) {k : List Extent} {l : List Visit} → Over v s x k l → k ≡ ms ++ ns → Split v s x ms ns l
+over-split : (v : Service) (s : List ℕ) (x : Lists) (ms ns : List Extent) {k : List Extent} {l : List Visit} → Over v s x k l → k ≡ ms ++ ns → Split v s x ms ns l
 over-split v s x [] ns {k} {l} w e = record { front = []; back = l; is = refl; over-front = none; over-back = subst (λ (i : List Extent). Over v s x i l) e w }
 over-split v s x (m ∷ ms) ns none e = absurd (let z : _≡_ {A = ℕ} 0 1 = cc in omega arith)
 over-split v s x (m ∷ ms) ns (also m′ w k l t r) e =
@@ -168,43 +170,28 @@ over-split v s x (m ∷ ms) ns (also m′ w k l t r) e =
       over-back = f .over-back;
     }
 
-visit-eq : (w w′ : Visit) → w .start ≡ w′ .start → w .end ≡ w′ .end → w .given ≡ w′ .given → w ≡ w′
-visit-eq w w′ p q g = λ i. record { start = p i; end = q i; given = g i }
-
-starts-moved : (n n′ : ℕ) (m : Extent) → startsAt (shifted n n′ m) ≡ startsAt m + n′ - n
-starts-moved n n′ (closed a e) = refl
-starts-moved n n′ (unclosed a e) = refl
-
-ends-moved : (n n′ : ℕ) (m : Extent) → endsAt (shifted n n′ m) ≡ endsAt m + n′ - n
-ends-moved n n′ (closed a e) = refl
-ends-moved n n′ (unclosed a e) = refl
-
--- the same bytes, the same lists: the same report
+-- ---- two walks, before and after damage: the same bytes, the same lists, the same report
 module _ (v : Service) (s s′ : List ℕ) (x : Lists) where
-  same-given : (m m′ : Extent) (w w′ : Visit) → Told v s x m w → Told v s′ x m′ w′ → bytesOf s′ m′ ≡ bytesOf s m → w .given ≡ w′ .given
+  same-given : (m m′ : Extent) (w w′ : Visit) → Told v s x m w → Told v s′ x m′ w′ → bytesOf s′ m′ ≡ bytesOf s m → w′ .given ≡ w .given
   same-given m m′ w w′ t t′ e =
-      one-report v (bytesOf s m) x (w .given .lists) (w′ .given .lists) (w .given .answer) (w′ .given .answer) (t .report) (rw (← e) (t′ .report))
+      sym (one-report v (bytesOf s m) x (w .given .lists) (w′ .given .lists) (w .given .answer) (w′ .given .answer) (t .report) (rw (← e) (t′ .report)))
 
-  pub same-before : {ms : List Extent} {l l′ : List Visit} → Over v s x ms l → Over v s′ x ms l′ → map (bytesOf s′) ms ≡ map (bytesOf s) ms → l ≡ l′
-  same-before none none e = refl
-  same-before (also m w ms l t r) (also _ w′ _ l′ t′ r′) e =
-      let p : bytesOf s′ m ≡ bytesOf s m = cc in
-      let q : map (bytesOf s′) ms ≡ map (bytesOf s) ms = cc in
-      ap₂ (λ (a : Visit) (b : List Visit). a ∷ b) (visit-eq w w′ (t .start ∙ sym (t′ .start)) (t .end ∙ sym (t′ .end)) (same-given m m w w′ t t′ p)) (same-before r r′ q)
+  again : (n n′ : ℕ) (m m′ : Extent) (w w′ : Visit) → Stays s s′ n n′ m m′ → Told v s x m w → Told v s′ x m′ w′ → Again n n′ w w′
+  again n n′ m m′ w w′ y t t′ =
+      let a = y .start in
+      let b = y .end in
+      let c = t .start in
+      let d = t .end in
+      let c′ = t′ .start in
+      let d′ = t′ .end in
+      record { start = omega arith; end = omega arith; given = same-given m m′ w w′ t t′ (y .bytes) }
 
-  pub same-after : (n n′ : ℕ) {ms ms′ : List Extent} {l l′ : List Visit} → Over v s x ms l → Over v s′ x ms′ l′ → ms′ ≡ map (shifted n n′) ms → map (bytesOf s′) ms′ ≡ map (bytesOf s) ms
-      → l′ ≡ map (moved n n′) l
-  same-after n n′ none none u e = refl
-  same-after n n′ none (also m w ms l t r) u e = absurd (let z : _≡_ {A = ℕ} 0 1 = cc in omega arith)
-  same-after n n′ (also m w ms l t r) none u e = absurd (let z : _≡_ {A = ℕ} 0 1 = cc in omega arith)
-  same-after n n′ (also m w ms l t r) (also m′ w′ ms′ l′ t′ r′) u e =
-      let a : m′ ≡ shifted n n′ m = cc in
-      let b : ms′ ≡ map (shifted n n′) ms = cc in
-      let p : bytesOf s′ m′ ≡ bytesOf s m = cc in
-      let q : map (bytesOf s′) ms′ ≡ map (bytesOf s) ms = cc in
-      ap₂ (λ (y : Visit) (z : List Visit). y ∷ z)
-      (visit-eq w′ (moved n n′ w)
-      (t′ .start ∙ ap startsAt a ∙ starts-moved n n′ m ∙ ap (λ (i : ℕ). i + n′ - n) (sym (t .start)))
-      (t′ .end ∙ ap endsAt a ∙ ends-moved n n′ m ∙ ap (λ (i : ℕ). i + n′ - n) (sym (t .end)))
-      (sym (same-given m m′ w w′ t t′ p)))
-      (same-after n n′ r r′ b q)
+  pub walked-again : {n n′ : ℕ} {k : List Mark} {ms ms′ : List Extent} → Beside (Stays s s′) n n′ k ms ms′ → {l l′ : List Visit} → Over v s x ms l → Over v s′ x ms′ l′ → Beside Again n n′ k l l′
+  walked-again (damage.none n n′) none none = damage.none n n′
+  walked-again (damage.spared n n′ m m′ k ms ms′ y b) (also _ w _ l t r) (also _ w′ _ l′ t′ r′) = damage.spared n n′ w w′ k l l′ (again n n′ m m′ w w′ y t t′) (walked-again b r r′)
+  walked-again (damage.struck n n′ c m k ms new ms′ b) (also _ w _ l t r) o =
+      let f = over-split v s′ x new ms′ o refl in
+      subst (Beside Again n n′ (hit c ∷ k) (w ∷ l)) (sym (f .is)) (damage.struck n n′ c w k l (f .front) (f .back) (walked-again b r (f .over-back)))
+  walked-again (damage.passed n n′ m k ms new ms′ b) (also _ w _ l t r) o =
+      let f = over-split v s′ x new ms′ o refl in
+      subst (Beside Again n n′ (damage.next ∷ k) (w ∷ l)) (sym (f .is)) (damage.passed n n′ w k l (f .front) (f .back) (walked-again b r (f .over-back)))

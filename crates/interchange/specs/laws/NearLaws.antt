@@ -14,7 +14,7 @@ use Rattle.segments.specs.laws.SegmentsLaws.{something}
 use Rattle.segments.specs.laws.ListLaws.{list-finished, list-unfinished}
 use Rattle.segments.specs.laws.SplitLaws.{segments-split}
 use Rattle.interchange.specs.Envelope.{lastUnz, ended}
-use Rattle.interchange.specs.laws.ReopenTheorem.{last-append}
+use Rattle.interchange.specs.laws.LastLaws.{last-append}
 
 module _ (v : Service) (s : List ℕ) where
   -- segments from a byte on, with others before them

@@ -11,47 +11,24 @@ use Rattle.segments.specs.laws.ClearLaws.{Below, nil, fin, unf}
 use Rattle.values.specs.Text.{text, sameList}
 use Rattle.interchange.specs.Messages.{tagAt, startOf, pastOf, Kind, head, trailer, last, other, cut, kindOf, Extent, closed, unclosed, startsAt, endsAt, extentBy, extentOf, messagesBy}
 use Rattle.interchange.specs.laws.FindLaws.{extent-starts}
-use Rattle.interchange.specs.Damage.{shifted, From, none, also, bytesOf}
+use Rattle.interchange.specs.Damage.{bytesOf}
 use Rattle.interchange.specs.laws.DamageLaws.{moved, beginning}
 
 -- ---- messages further on
-start-moved : (k : ℕ) (m : Extent) → startsAt (moved k m) ≡ k + startsAt m
+pub start-moved : (k : ℕ) (m : Extent) → startsAt (moved k m) ≡ k + startsAt m
 start-moved k (closed a e) = refl
 start-moved k (unclosed a e) = refl
 
-end-moved : (k : ℕ) (m : Extent) → endsAt (moved k m) ≡ k + endsAt m
+pub end-moved : (k : ℕ) (m : Extent) → endsAt (moved k m) ≡ k + endsAt m
 end-moved k (closed a e) = refl
 end-moved k (unclosed a e) = refl
 
-shift-one : (k k′ n n′ r : ℕ) → n ≡ k + r → n′ ≡ k′ + r → (m : Extent) → shifted n n′ (moved k m) ≡ moved k′ m
-shift-one k k′ n n′ r p q (closed a e) =
-    let x : k + a + n′ - n ≡ k′ + a = omega arith in
-    let y : k + e + n′ - n ≡ k′ + e = omega arith in
-    ap₂ closed x y
-shift-one k k′ n n′ r p q (unclosed a e) =
-    let x : k + a + n′ - n ≡ k′ + a = omega arith in
-    let y : k + e + n′ - n ≡ k′ + e = omega arith in
-    ap₂ unclosed x y
-
--- the messages of r bytes that stand at k in n bytes and at k′ in n′
-pub shift-all : (k k′ n n′ r : ℕ) → n ≡ k + r → n′ ≡ k′ + r → (l : List Extent) → map (shifted n n′) (map (moved k) l) ≡ map (moved k′) l
-shift-all k k′ n n′ r p q [] = refl
-shift-all k k′ n n′ r p q (m ∷ l) = ap₂ (λ (x : Extent) (y : List Extent). x ∷ y) (shift-one k k′ n n′ r p q m) (shift-all k k′ n n′ r p q l)
-
-pub from-moved : (j k : ℕ) → j ≤ k → (l : List Extent) → From j (map (moved k) l)
-from-moved j k h [] = none
-from-moved j k h (m ∷ l) = let e = start-moved k m in let g : j ≤ startsAt (moved k m) = omega arith in also (moved k m) (map (moved k) l) g (from-moved j k h l)
-
-bytes-one : (p r : List ℕ) (m : Extent) → bytesOf (p ++ r) (moved (length p) m) ≡ bytesOf r m
+pub bytes-one : (p r : List ℕ) (m : Extent) → bytesOf (p ++ r) (moved (length p) m) ≡ bytesOf r m
 bytes-one p r m =
     let x = start-moved (length p) m in
     let y = end-moved (length p) m in
     let n : endsAt (moved (length p) m) - startsAt (moved (length p) m) ≡ endsAt m - startsAt m = omega arith in
     ap₂ (λ (i j : ℕ). take i (drop j (p ++ r))) n x ∙ ap (take (endsAt m - startsAt m)) (drop-append-add p r (startsAt m))
-
-pub bytes-moved : (p r : List ℕ) (l : List Extent) → map (bytesOf (p ++ r)) (map (moved (length p)) l) ≡ map (bytesOf r) l
-bytes-moved p r [] = refl
-bytes-moved p r (m ∷ l) = ap₂ (λ (x : List ℕ) (y : List (List ℕ)). x ∷ y) (bytes-one p r m) (bytes-moved p r l)
 
 -- ---- messages that lie before a place
 pub data Until (k : ℕ) : List Extent → Type 0 where

@@ -2,7 +2,7 @@
 use Prim.Native.Nat.{ℕ, _+_}
 use native.Mathlib.Omega.{arith}
 use mathlib.Core.Path.{_≡_, refl, sym, _∙_, ap, ap₂, subst}
-use mathlib.Core.List.{List, [], _∷_, _++_, append-assoc}
+use mathlib.Core.List.{List, [], _∷_, _++_}
 use mathlib.Core.Bool.{Bool, true, false}
 use lib.Dec.{T}
 use Rattle.service.specs.declared.Service.{Service}
@@ -13,7 +13,7 @@ use Rattle.values.specs.laws.TextLaws.{same-eq}
 use Rattle.interchange.specs.Messages.{tagAt, startOf, Kind, head, trailer, last, other, cut, kindBy, kindOf, Extent, closed, startsAt, extentBy, extentOf, messagesBy, messagesOf}
 use Rattle.interchange.specs.laws.FindLaws.{extent-starts}
 use Rattle.interchange.specs.laws.CloseLaws.{Tidy, nil, one, more}
-use Rattle.interchange.specs.Damage.{lastClosed, Before, here, later, Target}
+use Rattle.interchange.specs.Damage.{lastClosed, Before, here, later}
 use Rattle.interchange.specs.laws.DamageLaws.{beginning}
 use Rattle.interchange.specs.laws.BeforeLaws.{stands}
 
@@ -246,40 +246,9 @@ snoc-one (c ∷ x) (d ∷ y) a b e =
     let q : x ++ (a ∷ []) ≡ y ++ (b ∷ []) = cc in
     ap₂ (λ (u : Piece) (w : List Piece). u ∷ w) p (snoc-one x y a b q)
 
--- ---- a closed message has a segment before its UNT
-all-back : (l r : List Piece) → allFinished (l ++ r) ≡ true → allFinished r ≡ true
-unfolding allFinished
-all-back [] r w = w
-all-back (finished a t ∷ l) r w = all-back l r w
-all-back (unfinished a e ∷ l) r w = absurd (subst T (sym w) tt)
-
-before-front : (t z : ℕ) (l r : List Piece) → Before t z r → Before t z (l ++ r)
-before-front t z [] r w = w
-before-front t z (p ∷ l) r w = later p (l ++ r) (before-front t z l r w)
-
-before-mid : (b t : ℕ) (l : List Piece) (u z : ℕ) (r : List Piece) → allFinished (finished b t ∷ l) ≡ true → (x : ℕ) × Before x z (finished b t ∷ (l ++ (finished u z ∷ r)))
+-- ---- the terminator before a segment
+pub before-mid : (b t : ℕ) (l : List Piece) (u z : ℕ) (r : List Piece) → allFinished (finished b t ∷ l) ≡ true → (x : ℕ) × Before x z (finished b t ∷ (l ++ (finished u z ∷ r)))
 unfolding allFinished
 before-mid b t [] u z r w = (t, here b u r)
 before-mid b t (finished c y ∷ l) u z r w = let f = before-mid c y l u z r w in (f .0, later (finished b t) (finished c y ∷ (l ++ (finished u z ∷ r))) (f .1))
 before-mid b t (unfinished c y ∷ l) u z r w = absurd (subst T (sym w) tt)
-
-pub target-in : (v : Service) (s : List ℕ) (l : List Piece) → Tidy l → (before : List Extent) (a e : ℕ) (after : List Extent)
-    → messagesOf v s l ≡ before ++ (closed a e ∷ after) → lastClosed true before ≡ true → (t : ℕ) × Target v s l before a t e after
-target-in v s l y before a e after m c =
-    let sp = split v s a e after l before m in
-    let en = ending v s a e (sp .back) (sp .extent) in
-    let f : l ≡ sp .front ++ (finished a (sp .term) ∷ (en .mid ++ (finished (en .start) (en .term) ∷ en .rest))) = sp .is ∙ ap (λ (x : List Piece). sp .front ++ (finished a (sp .term) ∷ x)) (en .is) in
-    let g : l ≡ (sp .front ++ (finished a (sp .term) ∷ en .mid)) ++ (finished (en .start) (en .term) ∷ en .rest) =
-    f ∙ sym (append-assoc (sp .front) (finished a (sp .term) ∷ en .mid) (finished (en .start) (en .term) ∷ en .rest)) in
-    let h : allFinished (sp .front ++ (finished a (sp .term) ∷ en .mid)) ≡ true =
-    before-finished (sp .front ++ (finished a (sp .term) ∷ en .mid)) (finished (en .start) (en .term)) (en .rest) (subst Tidy g y) in
-    let b = before-mid a (sp .term) (en .mid) (en .start) (en .term) (en .rest) (all-back (sp .front) (finished a (sp .term) ∷ en .mid) h) in (
-      b .0,
-      record {
-        messages = m;
-        closes = c;
-        last = en .term;
-        ends = en .ends;
-        precedes = subst (Before (b .0) (en .term)) (sym f) (before-front (b .0) (en .term) (sp .front) _ (b .1));
-      },
-    )
