@@ -291,7 +291,7 @@ module _ (v : Service) (f : Fits v) (s : List ℕ) where
   left-closed left m w u = ⊎-elim (λ d. ap (lastClosed true) d) (λ d. ap (lastClosed true) d ∙ u) w
 
   ends-term : (q : ℕ) (before : List Extent) (a z e : ℕ) (ms : List Extent) → Lies v s q before a e ms → z + 1 ≡ e → getD s z 0 ≡ v .terminator
-  ends-term q before a z e ms y n = let x = y .ends in let i : z ≡ y .last = omega arith in ap (λ (j : ℕ). getD s j 0) i ∙ y .past .term
+  ends-term q before a z e ms y n = let x = y .ends in let i : z ≡ y .last = omega arith in ap (λ (j : ℕ). getD s j 0) i ∙ y .term
 
   -- what is said of messages and what befell them, by whether the message before them, whose UNT ends at z, was hit up to its end
   abbrev Outcome : Bool → Bool → List Extent → List Mark → Type 0

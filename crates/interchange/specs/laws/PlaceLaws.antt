@@ -3,21 +3,21 @@ use Prim.Native.Nat.{ℕ, _+_, _≤_, _<_}
 use native.Mathlib.Omega.{arith}
 use mathlib.Core.Path.{_≡_, refl, sym, _∙_, ap, subst}
 use mathlib.Core.Logic.{_⊎_, inl, inr}
-use mathlib.Core.List.{List, [], _∷_, _++_, append-assoc, append-cancel-right}
+use mathlib.Core.List.{List, [], _∷_, _++_, append-assoc}
 use mathlib.Core.Bool.{true, false}
 use lib.ListN.{length, getD, drop}
 use lib.Dec.{T}
 use Rattle.service.specs.declared.Service.{Service}
 use Rattle.service.specs.Tests.{lastOf}
 use Rattle.segments.specs.SegmentList.{Piece, finished, gap, segmentsAfter}
-use Rattle.segments.specs.laws.ClearLaws.{Clear, clear-on, Passed, passed, upto-start, from-start, pastAll, PassedAll, passed-all, past-last, past-append}
+use Rattle.segments.specs.laws.ClearLaws.{Clear, clear-on, passed, upto-start, from-start, pastAll, PassedAll, passed-all}
 use Rattle.values.specs.Text.{text, sameList, says}
 use Rattle.interchange.specs.Messages.{tagAt, Kind, head, trailer, last, other, cut, kindBy, kindOf, Extent, closed, extentOf, messagesBy, messagesOf}
 use Rattle.interchange.specs.Envelope.{lastUnz}
 use Rattle.interchange.specs.laws.CloseLaws.{Tidy, nil, one, more, tidy-pieces}
 use Rattle.interchange.specs.Damage.{Before}
 use Rattle.interchange.specs.laws.DamageLaws.{beginning}
-use Rattle.interchange.specs.laws.TargetLaws.{head-tag, split, ending, before-finished, before-mid, two, snoc-one}
+use Rattle.interchange.specs.laws.TargetLaws.{head-tag, split, ending, before-finished, before-mid, two}
 use Rattle.interchange.specs.laws.LastLaws.{last-append}
 
 -- a message begins at a among the segments from q on: the segments before its UNH, with the messages that begin in them, the UNH and those after it
@@ -55,9 +55,8 @@ pub record Lies (v : Service) (s : List ℕ) (q : ℕ) (before : List Extent) (a
   pub last : ℕ
   pub ends : last + 1 ≡ e
   pub inner : unh .back ≡ mid ++ (finished unt last ∷ segmentsAfter v s e)
-  -- past the segments before the UNT
-  pub low : a < pastAll (unh .head + 1) mid
-  pub past : Passed v s (pastAll (unh .head + 1) mid) last (segmentsAfter v s e)
+  pub high : last < length s
+  pub term : getD s last 0 ≡ v .terminator
   pub rest : messagesOf v s (segmentsAfter v s e) ≡ after
   pub unz : UnzBehind v s q e
 
@@ -68,12 +67,6 @@ pub record Beyond (v : Service) (s : List ℕ) (z : ℕ) (m : Extent) (ms : List
   pub is : (left ≡ []) ⊎ (left ≡ m ∷ [])
   pub resumes : Resumes v s z past (left ++ ms)
   pub unz : UnzBehind v s (z + 1) past
-
--- the second of two neighbours is followed by the same segments in both, so that the first is the same
-same-front : (x y : List Piece) (p q : Piece) (l m : List Piece) → l ≡ m → x ++ (p ∷ l) ≡ y ++ (q ∷ m) → x ≡ y
-same-front x y p q l m h e =
-    let f : x ++ (p ∷ []) ++ l ≡ y ++ (q ∷ []) ++ l = append-assoc x (p ∷ []) l ∙ e ∙ ap (λ (n : List Piece). y ++ (q ∷ n)) (sym h) ∙ sym (append-assoc y (q ∷ []) l) in
-    snoc-one x y p q (append-cancel-right (x ++ (p ∷ [])) (y ++ (q ∷ [])) l f)
 
 -- a segment with another tag is not the last, if the last is the UNZ
 unz-behind : (v : Service) (s : List ℕ) (l : List Piece) (u z : ℕ) → (says (tagAt v s u) "UNZ" ≡ true → ⊥) → (r : List Piece)
@@ -126,8 +119,6 @@ module _ (v : Service) (s : List ℕ) where
       sp .is
       ∙ ap (λ (x : List Piece). sp .front ++ (finished a (sp .term) ∷ x)) inner
       ∙ sym (append-assoc (sp .front) (finished a (sp .term) ∷ en .mid) (finished (en .start) (en .term) ∷ segmentsAfter v s e)) in
-      let y1 = p2 .past .low in
-      let y2 = ps .low in
       record {
         unh = record {
           front = sp .front;
@@ -144,8 +135,8 @@ module _ (v : Service) (s : List ℕ) where
         last = en .term;
         ends = n;
         inner = inner;
-        low = omega arith;
-        past = subst (Passed v s (pastAll (sp .term + 1) (en .mid)) (en .term)) (sym r) p3;
+        high = p3 .high;
+        term = p3 .term;
         rest = ap (messagesOf v s) r ∙ sym (en .same) ∙ sp .rest;
         unz = λ u.
             unz-behind v s (sp .front ++ (finished a (sp .term) ∷ en .mid)) (en .start) (en .term) (no-unz (tagAt v s (en .start)) (en .tag)) (segmentsAfter v s e) (ap (lastUnz v s false) (sym through) ∙ u);
@@ -153,7 +144,7 @@ module _ (v : Service) (s : List ℕ) where
 
   module _ (q : ℕ) (before : List Extent) (a e : ℕ) (after : List Extent) (f : Lies v s q before a e after) where
     pub lies-long : e ≤ length s
-    lies-long = let x = f .ends in let y = f .past .high in omega arith
+    lies-long = let x = f .ends in let y = f .high in omega arith
 
     -- the message's own segments, the UNT among them
     own : segmentsAfter v s a ≡ (finished a (f .unh .head) ∷ f .mid) ++ (finished (f .unt) (f .last) ∷ segmentsAfter v s e)
@@ -169,26 +160,18 @@ module _ (v : Service) (s : List ℕ) where
     pub resumes-near : (t z : ℕ) → z + 1 ≡ e → Before t z (segmentsAfter v s a) → Resumes v s t e after
     resumes-near t z n w =
         let tw = two t z (segmentsAfter v s a) w in
-        let o1 = f .ends in
-        let n1 : f .last ≡ z = omega arith in
-        let p4 = past-front a (f .unh .clear .high) (tw .front) (finished (tw .start) t) (finished (tw .next) z ∷ tw .back) (tw .is) in
-        let p5 = passed v s (pastAll a (tw .front)) (tw .start) t (finished (tw .next) z ∷ tw .back) (p4 .past .high) (p4 .rest) in
-        let p6 = passed v s (t + 1) (tw .next) z (tw .back) (p5 .past .high) (p5 .rest) in
-        let b : tw .back ≡ segmentsAfter v s e = sym (p6 .rest) ∙ ap (segmentsAfter v s) n in
-        let g : segmentsAfter v s a ≡ (tw .front ++ (finished (tw .start) t ∷ [])) ++ (finished (tw .next) z ∷ tw .back) =
-        tw .is ∙ sym (append-assoc (tw .front) (finished (tw .start) t ∷ []) (finished (tw .next) z ∷ tw .back)) in
-        let o : tw .front ++ (finished (tw .start) t ∷ []) ≡ finished a (f .unh .head) ∷ f .mid =
-        same-front (tw .front ++ (finished (tw .start) t ∷ [])) (finished a (f .unh .head) ∷ f .mid) (finished (tw .next) z) (finished (f .unt) (f .last)) (tw .back) (segmentsAfter v s e) b (sym g ∙ own) in
-        let x : pastAll (f .unh .head + 1) (f .mid) ≡ t + 1 = sym (past-append a [] a (f .unh .head) (f .mid)) ∙ ap (pastAll a) (sym o) ∙ past-last a (tw .front) (tw .start) t in
-        let y = p6 .low in
+        let p1 = past-front a (f .unh .clear .high) (tw .front) (finished (tw .start) t) (finished (tw .next) z ∷ tw .back) (tw .is) in
+        let p2 = passed v s (pastAll a (tw .front)) (tw .start) t (finished (tw .next) z ∷ tw .back) (p1 .past .high) (p1 .rest) in
+        let p3 = passed v s (t + 1) (tw .next) z (tw .back) (p2 .past .high) (p2 .rest) in
+        let y = p3 .low in
         record {
           last = z;
           ends = n;
           order = omega arith;
-          high = p6 .high;
-          term = p5 .term;
-          term-last = p6 .term;
-          clear-last = p6 .past;
+          high = p3 .high;
+          term = p2 .term;
+          term-last = p3 .term;
+          clear-last = p3 .past;
           rest = f .rest;
         }
 

@@ -235,17 +235,6 @@ two t z l (later p r w) =
     let f = two t z r w in
     record { front = p ∷ f .front; start = f .start; next = f .next; back = f .back; is = ap (λ (x : List Piece). p ∷ x) (f .is) }
 
-pub snoc-one : (x y : List Piece) (a b : Piece) → x ++ (a ∷ []) ≡ y ++ (b ∷ []) → x ≡ y
-snoc-one [] [] a b e = refl
-snoc-one [] (c ∷ []) a b e = absurd (let z : _≡_ {A = ℕ} 0 1 = cc in omega arith)
-snoc-one [] (c ∷ d ∷ y) a b e = absurd (let z : _≡_ {A = ℕ} 0 1 = cc in omega arith)
-snoc-one (c ∷ []) [] a b e = absurd (let z : _≡_ {A = ℕ} 0 1 = cc in omega arith)
-snoc-one (c ∷ d ∷ x) [] a b e = absurd (let z : _≡_ {A = ℕ} 0 1 = cc in omega arith)
-snoc-one (c ∷ x) (d ∷ y) a b e =
-    let p : c ≡ d = cc in
-    let q : x ++ (a ∷ []) ≡ y ++ (b ∷ []) = cc in
-    ap₂ (λ (u : Piece) (w : List Piece). u ∷ w) p (snoc-one x y a b q)
-
 -- ---- the terminator before a segment
 pub before-mid : (b t : ℕ) (l : List Piece) (u z : ℕ) (r : List Piece) → allFinished (finished b t ∷ l) ≡ true → (x : ℕ) × Before x z (finished b t ∷ (l ++ (finished u z ∷ r)))
 unfolding allFinished

@@ -235,16 +235,6 @@ passed-all v s i (finished a t ∷ l) r h w e =
     record { past = clear-on v s i (t + 1) (pastAll (t + 1) l) (f .past) (g .past); rest = g .rest }
 passed-all v s i (unfinished a u ∷ l) r h w e = absurd (subst T (sym w) tt)
 
-pub past-last : (i : ℕ) (l : List Piece) (b t : ℕ) → pastAll i (l ++ finished b t ∷ []) ≡ t + 1
-unfolding pastAll
-past-last i [] b t = refl
-past-last i (p ∷ l) b t = past-last (past p) l b t
-
-pub past-append : (i : ℕ) (l : List Piece) (a t : ℕ) (m : List Piece) → pastAll i (l ++ (finished a t ∷ m)) ≡ pastAll (t + 1) m
-unfolding pastAll
-past-append i [] a t m = refl
-past-append i (p ∷ l) a t m = past-append (past p) l a t m
-
 -- ---- the segments of a text lie in it
 pub data Below (n : ℕ) : List Piece → Type 0 where
   nil : Below n []

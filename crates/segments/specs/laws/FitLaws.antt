@@ -20,17 +20,17 @@ module _ (v : Service) (f : Fits v) where
   apart : (b x : ℕ) → (b < 33) ⊎ (126 < b) → serves x ≡ true → b ≡ x → ⊥
   apart b x o e q = ⊎-elim (λ (h : b < 33). let w = serves-range x e in omega arith) (λ (h : 126 < b). let w = serves-range x e in omega arith) o
 
-  -- a byte outside 0x21 to 0x7E is plain
-  pub plain-outside : (b : ℕ) → (b < 33) ⊎ (126 < b) → classOf v b ≡ Plain
-  plain-outside b o = go (v .releases) refl
+  -- a byte that no service character can be is plain
+  pub plain-by : (b : ℕ) → ((x : ℕ) → serves x ≡ true → b ≡ x → ⊥) → classOf v b ≡ Plain
+  plain-by b h = go (v .releases) refl
     where
       go : (r : Bool) → v .releases ≡ r → classOf v b ≡ Plain
-      go true e =
-          sym
-          (class-plain v b (apart b (v .terminator) o (f .terminator)) (apart b (v .element) o (f .element)) (apart b (v .component) o (f .component)) e
-          (apart b (v .release) o (f .release e)))
-      go false e =
-          sym (class-plain′ v b (apart b (v .terminator) o (f .terminator)) (apart b (v .element) o (f .element)) (apart b (v .component) o (f .component)) e)
+      go true e = sym (class-plain v b (h (v .terminator) (f .terminator)) (h (v .element) (f .element)) (h (v .component) (f .component)) e (h (v .release) (f .release e)))
+      go false e = sym (class-plain′ v b (h (v .terminator) (f .terminator)) (h (v .element) (f .element)) (h (v .component) (f .component)) e)
+
+  -- as one outside 0x21 to 0x7E
+  pub plain-outside : (b : ℕ) → (b < 33) ⊎ (126 < b) → classOf v b ≡ Plain
+  plain-outside b o = plain-by b (λ (x : ℕ) e. apart b x o e)
 
   pub fits-sound : Sound v
   fits-sound =

@@ -18,24 +18,16 @@ use Rattle.service.specs.Tests.{if}
 use Rattle.segments.specs.declared.Class.{Class}
 use Rattle.segments.specs.declared.Class.the-variants.{Plain, Comp, Elem, Rel, Term}
 use Rattle.segments.specs.Classes.{classOf}
-use Rattle.segments.specs.laws.BytesLaws.{class-elem, class-comp, class-rel, class-plain, class-plain′}
+use Rattle.segments.specs.laws.BytesLaws.{class-elem, class-comp, class-rel}
 use Rattle.segments.specs.SegmentList.{Piece, finished, gap, inside, mode, ended, emit, pieces, segmentsAfter}
 use Rattle.segments.specs.laws.ResyncLaws.{gap-start}
-use Rattle.segments.specs.laws.FitLaws.{plain-outside, term-class}
+use Rattle.segments.specs.laws.FitLaws.{plain-by, plain-outside, term-class}
 
 -- ---- what the characters are to a reader
 module _ (v : Service) (f : Fits v) where
   -- a letter or a digit is plain
   pub plain-letter : (b : ℕ) → isAlphanumeric b ≡ true → classOf v b ≡ Plain
-  plain-letter b a = go (v .releases) refl
-    where
-      go : (r : Bool) → v .releases ≡ r → classOf v b ≡ Plain
-      go true e =
-          sym
-          (class-plain v b (serves-no-letter b (v .terminator) a (f .terminator)) (serves-no-letter b (v .element) a (f .element)) (serves-no-letter b (v .component) a (f .component)) e
-          (serves-no-letter b (v .release) a (f .release e)))
-      go false e =
-          sym (class-plain′ v b (serves-no-letter b (v .terminator) a (f .terminator)) (serves-no-letter b (v .element) a (f .element)) (serves-no-letter b (v .component) a (f .component)) e)
+  plain-letter b a = plain-by v f b (λ (x : ℕ) e. serves-no-letter b x a e)
 
   -- those present all differ
   differ-by : (r : Bool) → v .releases ≡ r → distinct (servingBy r v) ≡ true

@@ -21,6 +21,7 @@ use Rattle.values.specs.declared.Number.{Number}
 use Rattle.values.specs.declared.Number.the-variants as number
 use Rattle.values.specs.forms.Values.{oneMore, Part, ends, left, nothing, onward, units, wholeOf, fraction, together, amountBy, amountOf}
 use Rattle.values.specs.laws.DigitLaws.{passed, digit-passed, digit-passes, digits-append, digit-one, append-nil, append-one, worth-one, worth-more, length-more, worth-small, worth-led, worth-pos, pow-one, unled-more, unled-first, unled-one}
+use Rattle.values.specs.laws.NumberLaws.{not-of as not-number}
 
 not-of : (n : ℕ) → amount.Not ≡ amount.Of n → ⊥
 not-of n q = let z : _≡_ {A = ℕ} 0 1 = cc in omega arith
@@ -112,9 +113,6 @@ record Taken (count acc b n : ℕ) : Type 0 where
   room : acc ≤ 99999999999
   lead : 0 < count → acc ≡ 0 → ⊥
   sum : n ≡ acc * 10 + (b - 48)
-
-not-number : (n : ℕ) → number.Not ≡ number.Of n → ⊥
-not-number n q = let z : _≡_ {A = ℕ} 0 1 = cc in omega arith
 
 taken : (acc b n : ℕ) → oneMore 1 acc b ≡ number.Of n → Taken 1 acc b n
 unfolding oneMore

@@ -15,7 +15,7 @@ use Rattle.values.specs.Numbers.{Digits, none, more, Unled, worth, Numbe
 use Rattle.values.specs.forms.Values.{digits, numberOf, isNumber}
 use Rattle.values.specs.laws.DigitLaws.{passed, digit-passed, digit-passes, digits-append, digit-one, append-nil, append-one, worth-append, worth-one, worth-more, length-more, worth-pos, unled-more, unled-first, unled-one}
 
-not-of : (n : ℕ) → number.Not ≡ number.Of n → ⊥
+pub not-of : (n : ℕ) → number.Not ≡ number.Of n → ⊥
 not-of n q = let z : _≡_ {A = ℕ} 0 1 = cc in omega arith
 
 -- ---- digits p were read, l is left
