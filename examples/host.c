@@ -159,7 +159,8 @@ static const char *words(uint32_t number)
         return "The payments (SEQ) must be numbered 1, 2, 3 and so on, from 1 again in each order.";
     case TWINEHERALD_AMOUNT:
         return "The amount is not written as it must be: 1 to 12 digits, then at most one comma or dot "
-               "with 1 to 3 digits; no sign, no thousands mark, no zero in front.";
+               "with 1 to 3 digits. The digits before the comma or dot may be left out (,5 is 0,5), those "
+               "after it may not (5,). No sign, no thousands mark, no zero in front of other digits.";
     case TWINEHERALD_QUALIFIER:
         return "The number in front of an amount must be 9 or 57, and it must be the same for an order and "
                "all its payments.";

@@ -54,7 +54,7 @@ enum {
     TWINEHERALD_UNT_REFERENCE = 18,  /* UNT's reference is not UNH's */
     TWINEHERALD_LIN_NUMBER = 20,     /* LIN numbers run 1, 2, 3 over the message */
     TWINEHERALD_SEQ_NUMBER = 21,     /* SEQ numbers run 1, 2, 3 under each LIN */
-    TWINEHERALD_AMOUNT = 22,         /* an amount has not the form */
+    TWINEHERALD_AMOUNT = 22,         /* an amount is 1 to 12 digits, or at most 12, a mark and 1 to 3 digits */
     TWINEHERALD_QUALIFIER = 23,      /* an amount's qualifier is not 9 or 57, or not that of its order */
     TWINEHERALD_CURRENCY = 24,       /* a currency is not three capitals, or not that of its order */
     TWINEHERALD_EXCHANGE = 25,       /* CUX is missing, not wanted, or wrong */

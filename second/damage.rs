@@ -61,10 +61,16 @@ const VALUES: [&[u8]; 51] = [
 ];
 
 /// Amounts that have not the form (and a few that have).
-pub const AMOUNTS: [&[u8]; 40] = [
+pub const AMOUNTS: [&[u8]; 46] = [
     b"",
     b",5",
     b".5",
+    b",05",
+    b".500",
+    b",5000",
+    b",,5",
+    b",5,",
+    b"-,5",
     b"2,",
     b"2.",
     b"007",
@@ -325,7 +331,7 @@ pub fn break_rule(random: &mut Random, segments: &mut Vec<Segment>, kind: Kind, 
                     0,
                 ])
                 .min(999_999_999_999_999);
-            let text = crate::make::amount_text(random, new);
+            let text = crate::make::amount_text(random, new, 50);
             segments[moa].set(1, 1, text.as_bytes());
             if random.chance(10) {
                 for other in of_row(segments, kind, moas[1]) {

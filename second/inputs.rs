@@ -426,7 +426,7 @@ const FULL: [(Kind, bool); 3] = [(Kind::Paymul, false), (Kind::Paymul, true), (K
 
 /// A message in which every row of the chart that may stand does so (of PAYMUL all but SG10 or SG16).
 pub fn full_message(random: &mut Random, kind: Kind, sg10: bool) -> Vec<Segment> {
-    let profile = Profile { optional: 100, at_limit: 0, orders: 1, payments: 1, odd_text: 0 };
+    let profile = Profile { optional: 100, at_limit: 0, orders: 1, payments: 1, odd_text: 0, no_whole: 0 };
     full_with(random, kind, sg10, profile)
 }
 

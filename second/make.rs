@@ -61,12 +61,15 @@ pub struct Profile {
     pub payments: usize,
     /// How often a text holds separators, releases or bytes above 0x7E.
     pub odd_text: usize,
+    /// How often a whole part of 0 is left out before a mark.
+    pub no_whole: usize,
 }
 
-pub const SMALL: Profile = Profile { optional: 8, at_limit: 2, orders: 1, payments: 2, odd_text: 8 };
-pub const MIDDLE: Profile = Profile { optional: 25, at_limit: 5, orders: 3, payments: 3, odd_text: 10 };
-pub const RICH: Profile = Profile { optional: 60, at_limit: 10, orders: 4, payments: 4, odd_text: 10 };
-pub const REAL: Profile = Profile { optional: 30, at_limit: 0, orders: 12, payments: 20, odd_text: 3 };
+pub const SMALL: Profile = Profile { optional: 8, at_limit: 2, orders: 1, payments: 2, odd_text: 8, no_whole: 50 };
+pub const MIDDLE: Profile = Profile { optional: 25, at_limit: 5, orders: 3, payments: 3, odd_text: 10, no_whole: 50 };
+pub const RICH: Profile = Profile { optional: 60, at_limit: 10, orders: 4, payments: 4, odd_text: 10, no_whole: 50 };
+// The bench's files are made with this one: a change to it changes what the bench measures.
+pub const REAL: Profile = Profile { optional: 30, at_limit: 0, orders: 12, payments: 20, odd_text: 3, no_whole: 0 };
 
 pub const CURRENCIES: [&str; 8] = ["EUR", "CHF", "USD", "SEK", "GBP", "JPY", "AAA", "ZZZ"];
 
@@ -326,10 +329,7 @@ impl Maker<'_> {
             2 => format!("BGM+452+{}+9", digits(self.random, 10)),
             3 => format!("DTM+137:{date}:102"),
             17 => format!("LIN+{}", self.line),
-            23 => {
-                let total = self.amounts.iter().sum();
-                format!("MOA+{}:{}:{}", self.qualifier, amount_text(self.random, total), self.currency)
-            }
+            23 => self.moa(self.amounts.iter().sum()),
             24 => self.exchange(),
             28 => {
                 let holder = if self.holder_b {
@@ -342,10 +342,7 @@ impl Maker<'_> {
             32 => format!("NAD+{}+2729712345832::9", self.parties_b[0]),
             47 => format!("PRC+{}", self.random.pick(&["11", "8", "XX", ""])),
             50 => format!("SEQ+{}+{}", self.random.pick(&["", "", "YF3"]), self.sequence),
-            51 => {
-                let amount = self.amounts[self.sequence - 1];
-                format!("MOA+{}:{}:{}", self.qualifier, amount_text(self.random, amount), self.currency)
-            }
+            51 => self.moa(self.amounts[self.sequence - 1]),
             57 => {
                 let (qualifier, named) = self.institutions_c[0];
                 let holder = if named {
@@ -378,6 +375,12 @@ impl Maker<'_> {
             odd_bytes(self.random, &mut segment);
         }
         segment
+    }
+
+    /// The MOA of an order or of one of its payments.
+    fn moa(&mut self, thousandths: u64) -> String {
+        let amount = amount_text(self.random, thousandths, self.profile.no_whole);
+        format!("MOA+{}:{amount}:{}", self.qualifier, self.currency)
     }
 
     /// CUX of SG5: with and without a rate, with a base in none or one of its composites.
@@ -421,8 +424,9 @@ pub fn amounts(random: &mut Random, count: usize) -> Vec<u64> {
     }
 }
 
-/// An amount's text: comma or dot, and at times zeros after the last digit needed.
-pub fn amount_text(random: &mut Random, thousandths: u64) -> String {
+/// An amount's text: comma or dot, at times zeros after the last digit needed, and so often (of a hundred) no
+/// whole part where that is 0 and a mark follows.
+pub fn amount_text(random: &mut Random, thousandths: u64, no_whole: usize) -> String {
     let (whole, rest) = (thousandths / 1000, thousandths % 1000);
     let needed = match rest {
         0 => 0,
@@ -435,6 +439,8 @@ pub fn amount_text(random: &mut Random, thousandths: u64) -> String {
     let fraction = format!("{rest:03}");
     if digits == 0 {
         whole.to_string()
+    } else if whole == 0 && no_whole > 0 && random.chance(no_whole) {
+        format!("{mark}{}", &fraction[..digits])
     } else {
         format!("{whole}{mark}{}", &fraction[..digits])
     }
@@ -623,11 +629,11 @@ pub fn long_message(random: &mut Random, segments: usize, documents: bool) -> Ve
         let thousandths = random.next() % 1_000_000_000;
         total += thousandths;
         all.push(Segment::of(50, &format!("SEQ++{k}")));
-        all.push(Segment::of(51, &format!("MOA+9:{}:EUR", amount_text(random, thousandths))));
+        all.push(Segment::of(51, &format!("MOA+9:{}:EUR", amount_text(random, thousandths, 0))));
         all.push(Segment::of(53, "RFF"));
         all.push(Segment::of(61, "NAD+BE"));
     }
-    let total = amount_text(random, total);
+    let total = amount_text(random, total, 0);
     all[6].set(1, 1, total.as_bytes());
     if documents && all.len() + ending + 2 <= segments {
         all.push(Segment::of(76, "PRC+8"));

@@ -163,7 +163,7 @@ impl Maker<'_> {
 
     fn amount(&mut self, thousandths: u64) -> String {
         if self.random.chance(85) {
-            amount_text(self.random, thousandths)
+            amount_text(self.random, thousandths, self.profile.no_whole)
         } else {
             self.random.pick(&["", "007", ",5", "1.234,5", "-5", "1234567890123", "12,3456", "x"]).to_string()
         }

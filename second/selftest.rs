@@ -67,7 +67,7 @@ pub fn run() -> bool {
     t.hold("3", amount(b"23800,3") == Some(23_800_300));
     t.hold("4", amount(b"1500.5") == Some(1_500_500));
     t.hold("5", amount(b"1.500") == Some(1_500));
-    t.hold("6", [b"1.234,5" as &[u8], b"2,", b"007", b",5"].iter().all(|a| amount(a).is_none()));
+    t.hold("6", [b"1.234,5" as &[u8], b"2,", b"007"].iter().all(|a| amount(a).is_none()));
     t.hold("7", amount(b"999999999999,999") == Some(999_999_999_999_999) && amount(b"1000000000000").is_none());
     let named = "FII+OR+1:N'";
     let sums = payment(1, "9:0,1:EUR") + &payment(2, "9:0,2:EUR");
@@ -86,6 +86,18 @@ pub fn run() -> bool {
         "12",
         rewrite(twelve, 1000) == Ok(b"UNB+UNOA:3+A+B+020107:1200+R1'DTM+137:20020107:102'RFF'UNZ+0+R1'".to_vec()),
     );
+
+    // W-202
+    t.hold("13", amount(b",5") == Some(500) && amount(b".5") == Some(500));
+    t.hold(
+        "13, refused",
+        [b"," as &[u8], b".", b"5,", b"5.", b"", b",,5", b",5,", b",5000"].iter().all(|a| amount(a).is_none()),
+    );
+    t.hold("13, thousandths", amount(b",005") == Some(5) && amount(b".05") == Some(50) && amount(b",999") == Some(999));
+    let halves = payment(1, "9:,5:EUR") + &payment(2, "9:.500:EUR");
+    t.hold("13, two halves", number(&order(1, "9:1:EUR", "", named, &halves)) == 0);
+    t.hold("13, other total", number(&order(1, "9:,5:EUR", "", named, &halves)) == 26);
+    t.hold("13, a mark alone", number(&order(1, "9:,:EUR", "", named, &payment(1, "9:0:EUR"))) == 22);
 
     for kind in KINDS {
         t.hold(&format!("the chart of {}", kind.name()), in_order(kind));
@@ -157,8 +169,9 @@ pub fn run() -> bool {
             "level C parties" => 4 * 6 + 12 * 10 + 6 * 14,
             // with 9 no CUX; with 57: no base 2, first base 3, second base 1
             "CUX" => 1 + 2 + 3 + 1,
-            // short ones 81 + 108, long ones 9 by 5, and 1,00 and 1.00 against 1
-            "amounts" => 81 + 108 + 45 + 4,
+            // short ones 81 + 108, long ones 9 by 5, and 1,00 and 1.00 against 1; with no digit before the mark
+            // 2 by 3 + 9 + 27, each against itself and, both ways, against the same with a 0
+            "amounts" => 81 + 108 + 45 + 4 + 3 * 2 * (3 + 9 + 27),
             _ => match selftest_advice::accepted(name) {
                 Some(must) => must,
                 None => continue,

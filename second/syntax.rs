@@ -171,9 +171,11 @@ pub fn three_capitals(value: &[u8]) -> bool {
 }
 
 /// An amount in thousandths, if it has the form: 1 to 12 digits, no leading zero unless the whole part
-/// is 0, then optionally a comma or a dot and 1 to 3 digits.
+/// is 0, then optionally a comma or a dot and 1 to 3 digits. W-202: an empty whole part before a mark and
+/// digits is 0.
 pub fn amount(value: &[u8]) -> Option<u64> {
     let (whole, rest) = match value.iter().position(|b| *b == b',' || *b == b'.') {
+        Some(0) => (b"0" as &[u8], Some(&value[1..])),
         Some(mark) => (&value[..mark], Some(&value[mark + 1..])),
         None => (value, None),
     };

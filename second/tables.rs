@@ -165,6 +165,8 @@ fn amounts() -> Vec<Vec<u8>> {
     texts.push("9".repeat(30));
     texts.push("0".repeat(30));
     texts.push(format!("1,{}", "0".repeat(30)));
+    texts.extend([",9999", ".0000", ",5000", "-,50", "0,-5"].map(String::from));
+    texts.push(format!(",{}", "0".repeat(30)));
     let mut all = Vec::new();
     for text in texts {
         let moa = format!("9:{text}:EUR");
@@ -172,6 +174,14 @@ fn amounts() -> Vec<Vec<u8>> {
         if text.len() > 3 {
             all.push(with(&Parts { moa: &moa, ..GOOD }));
             all.push(with(&Parts { payment_moa: &moa, ..GOOD }));
+        }
+        if text.starts_with([',', '.']) {
+            // against the same with a 0 before the mark, and with a 1
+            for digit in [0, 1] {
+                let other = format!("9:{digit}{text}:EUR");
+                all.push(with(&Parts { moa: &moa, payment_moa: &other, ..GOOD }));
+                all.push(with(&Parts { moa: &other, payment_moa: &moa, ..GOOD }));
+            }
         }
     }
     all
@@ -278,7 +288,7 @@ pub fn tags(random: &mut Random, kind: Kind, full: &[Vec<Segment>]) -> Vec<Vec<u
     known.dedup();
     known.retain(|t| *t != "UNT");
     known.extend(["", "XXX", "UNZ", "lin", "LINE", "LI"]);
-    let one = Profile { optional: 0, at_limit: 0, orders: 1, payments: 1, odd_text: 0 };
+    let one = Profile { optional: 0, at_limit: 0, orders: 1, payments: 1, odd_text: 0, no_whole: 0 };
     let bare = make::message(random, kind, one);
     let limits = full_with(random, kind, false, Profile { optional: 100, at_limit: 100, ..one });
     let mut all = Vec::new();

@@ -33,6 +33,14 @@ else
     bad "host: an order and an advice, $how"
     cat "$log/host" "$log/err"
 fi
+# Amounts without a digit before the mark: 1750 and ,5 make 1750,5, and ,75 is .750.
+$host samples/half.edi >"$log/host" 2>"$log/err"
+if [ "$(grep '^    order ' "$log/host")" = "$(printf '    order 1: 1750.500\n    order 2: 0.750')" ]; then
+    good "host: totals of half, $how"
+else
+    bad "host: totals of half, $how"
+    cat "$log/host" "$log/err"
+fi
 # Rewriting: twice is the same as once, and every message keeps its number and segment.
 for edi in samples/*.edi; do
     $host --rewrite "$edi" >"$log/once" 2>/dev/null || continue

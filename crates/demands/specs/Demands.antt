@@ -71,7 +71,7 @@ pub record Demands : Type 0 where
       → messagesOf v s (bodyOf v s first) ≡ before ++ (closed a e ∷ after) → lastClosed true before ≡ true → (t z : ℕ) × One s v first before a t z e after
   pub predecessor : Predecessor
   pub damaged-files : DamageCases
-  -- ---- "How firm the answers are": "no second answer satisfies it"; "These must not get through"; and "Cases": "twelve rows under a single statement"
+  -- ---- "How firm the answers are": "no second answer satisfies it"; "These must not get through"; and "Cases": "twelve rows under a single statement", with W-202's
   pub one : OneAnswer
   pub wrong : WrongReaders
   pub cases : Cases

@@ -1,6 +1,7 @@
--- Rows 9 to 11 of document 01, "Cases", each as two whole messages: one that holds, and one that is refused.
+-- Rows 9 to 11 of document 01, "Cases", and the row of W-202, each as two whole messages: one that holds, and one that is refused.
 use Prim.Native.Nat.{ℕ}
 use Prim.Native.String.{String}
+use mathlib.Core.Path.{_≡_}
 use mathlib.Core.List.{List, [], _∷_, _++_}
 use Rattle.service.specs.Service.{plainService}
 use Rattle.chart.specs.Chart.{Reading}
@@ -9,7 +10,10 @@ use Rattle.kinds.specs.declared.Kind.{Kind}
 use Rattle.kinds.specs.declared.Kind.the-variants.{Paymul}
 use Rattle.message.specs.Kinds.{chartFor}
 use Rattle.values.specs.Text.{text}
-use Rattle.report.specs.Reported.{Room, Of, Applies, Lowest}
+use Rattle.lent.specs.Lists.{Lists}
+use Rattle.lent.specs.Over.{over}
+use Rattle.report.specs.declared.Report.{Report}
+use Rattle.report.specs.Reported.{Room, roomOf, Of, Applies, Lowest, Reported}
 
 -- lists that are long enough
 abbrev pub room : Room
@@ -25,6 +29,10 @@ pub record Holds (k : Kind) (x : Room) (m : List ℕ) : Type 0 where
 -- the number that is given for the message, and the segment
 abbrev pub Gives : Room → List ℕ → ℕ → ℕ → Type 0
 Gives x m n s = Lowest plainService m x n s
+
+-- the totals that the check of the message leaves at the front of their list
+abbrev pub Totals : List ℕ → List ℕ → Type 0
+Totals m l = (x x′ : Lists) (y : Report) → roomOf x ≡ room → Reported plainService m x x′ y → x′ .totals ≡ over l (x .totals)
 
 -- segments one after the other
 unfoldable pub joined : List String → List ℕ
@@ -63,3 +71,10 @@ counted seq =
 -- "SEQ 1, 2 and then 1 under a new LIN holds; 3 there gives 21": at that SEQ
 abbrev pub Row11 : Type 0
 Row11 = Holds Paymul room (counted "SEQ++1'") × Gives room (counted "SEQ++3'") 21 22
+
+-- "`,5` is 500 thousandths. A mark with nothing after it stays refused.", as the amount of an order and of its payment: its total is 500; `5,` gives 22, at the SG5 MOA
+abbrev pub Row13 : Type 0
+Row13 =
+    Holds Paymul room (exchange "MOA+57:,5:EUR'")
+    × Totals (exchange "MOA+57:,5:EUR'") (500 ∷ [])
+    × Gives room (exchange "MOA+57:5,:EUR'") 22 7

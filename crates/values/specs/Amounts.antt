@@ -2,7 +2,7 @@
 use Prim.Native.Nat.{ℕ, _+_, _*_, _-_, _^_, _≤_, _<_}
 use mathlib.Core.Path.{_≡_}
 use mathlib.Core.Logic.{_⊎_}
-use mathlib.Core.List.{List, _∷_, _++_}
+use mathlib.Core.List.{List, [], _∷_, _++_}
 use lib.ListN.{length}
 use Rattle.values.specs.Numbers.{Digits, Unled, worth}
 
@@ -12,6 +12,10 @@ pub record Whole (w : List ℕ) : Type 0 where
   pub some : 0 < length w
   pub most : length w ≤ 12
   pub lead : Unled w
+
+-- "An empty whole part before a mark and digits is from now on 0" (document 02, W-202): no digits, worth 0
+abbrev pub BeforeMark : List ℕ → Type 0
+BeforeMark w = (w ≡ []) ⊎ Whole w
 
 -- "a comma or a dot": "Either mark is taken, .. whichever UNA names."
 abbrev pub Mark : ℕ → Type 0
@@ -27,4 +31,4 @@ pub record Fraction (f : List ℕ) : Type 0 where
 -- thousandths"
 pub data AmountIs (bytes : List ℕ) (n : ℕ) : Type 0 where
   whole : Whole bytes → n ≡ worth bytes * 1000 → AmountIs bytes n
-  marked : (w f : List ℕ) (m : ℕ) → bytes ≡ w ++ m ∷ f → Whole w → Mark m → Fraction f → n ≡ worth w * 1000 + worth f * 10 ^ (3 - length f) → AmountIs bytes n
+  marked : (w f : List ℕ) (m : ℕ) → bytes ≡ w ++ m ∷ f → BeforeMark w → Mark m → Fraction f → n ≡ worth w * 1000 + worth f * 10 ^ (3 - length f) → AmountIs bytes n

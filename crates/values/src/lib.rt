@@ -191,7 +191,7 @@ fn one_more(count: usize, acc: u64, b: u8) -> Number
     Number::Of(acc * 10 + (b - 48) as u64)
 }
 
-// The whole part of the amount at `at`: 1 to 12 digits with no leading zero.
+// The whole part of the amount at `at`: 1 to 12 digits with no leading zero, or none before a mark, which is 0.
 fn whole_at(s: &[u8], at: usize, v: Service) -> Whole
     ensures { λ r. ⌜ partOf v (now (s .entry)) r ≡ wholeOf (valueFrom v at (now (s .entry))) ⌝ }
 {
@@ -203,10 +203,7 @@ fn whole_at(s: &[u8], at: usize, v: Service) -> Whole
         match t {
             Next::Byte(b, to) => {
                 if service::is_mark(b) {
-                    if 0 < count {
-                        return Whole::Marked(acc, to);
-                    }
-                    return Whole::Not;
+                    return Whole::Marked(acc, to);
                 }
                 let k = one_more(count, acc, b);
                 let Number::Of(n) = k else {
@@ -261,7 +258,7 @@ fn fraction_at(s: &[u8], at: usize, v: Service) -> Amount
     }
 }
 
-// The thousandths that the value at `at` writes: 1 to 12 digits with no leading zero, and after a mark 1 to 3 digits.
+// The thousandths that the value at `at` writes: 1 to 12 digits with no leading zero, or none before a mark, and after a mark 1 to 3 digits.
 fn amount_at(s: &[u8], at: usize, v: Service) -> Amount
     ensures { λ r. ⌜ r ≡ amountOf (valueFrom v at (now (s .entry))) ⌝ }
 {

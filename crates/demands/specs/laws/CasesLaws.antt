@@ -1,7 +1,7 @@
--- The twelve rows hold. Assumes nothing.
+-- The rows hold. Assumes nothing.
 use Rattle.values.specs.laws.CasesLaws as values
 use Rattle.rewrite.specs.laws.CasesLaws as rewrite
-use Rattle.demands.specs.laws.MessageCasesLaws.{nine, ten, eleven}
+use Rattle.demands.specs.laws.MessageCasesLaws.{nine, ten, eleven, thirteen}
 use Rattle.demands.specs.Cases.{Cases}
 
 pub cases : Cases
@@ -18,4 +18,5 @@ cases = record {
   ten = ten;
   eleven = eleven;
   twelve = rewrite.cases .twelve;
+  thirteen = (values.cases .thirteen, thirteen);
 }

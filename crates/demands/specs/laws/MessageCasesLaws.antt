@@ -1,6 +1,6 @@
--- Rows 9 to 11 hold. Assumes nothing.
+-- Rows 9 to 11 and 13 hold. Assumes nothing.
 use Prim.Native.Nat.{ℕ}
-use mathlib.Core.Path.{_≡_, refl, sym, subst}
+use mathlib.Core.Path.{_≡_, refl, sym, _∙_, ap, subst}
 use mathlib.Core.List.{List, [], _∷_}
 use Rattle.service.specs.Service.{plainService, isMark, isAlphanumeric, serves, among, distinct, fitting}
 use Rattle.segments.specs.Classes.{classOf}
@@ -11,6 +11,8 @@ use Rattle.values.specs.forms.Values.{digits, numberOf, oneMore, units, fractio
 use Rattle.interchange.specs.Messages.{tagAt, closedAt}
 use Rattle.interchange.specs.Envelope.{isReference}
 use Rattle.faults.specs.declared.Fault.the-variants as fault
+use Rattle.lent.specs.Lists.{Lists, Left, left}
+use Rattle.lent.specs.Over.{over}
 use Rattle.chart.specs.Chart.{Reading}
 use Rattle.chart.specs.forms.Machine.{only, run, step, stepRows, free, freeRows, placed, choose, takes, owed, rowsBy}
 use Rattle.table.specs.Entries.{linesFrom, within}
@@ -27,12 +29,15 @@ use Rattle.chart.proofs.Plain.{placed-one}
 use Rattle.chart.proofs.Whole.{fine, reading-of}
 use Rattle.chart.proofs.Tables.{sound}
 use Rattle.message.specs.Segs.{segsFrom, segsOf, those, until, stretches, each}
-use Rattle.message.specs.Rules.{some, failing, misnumbered, rule17, rule18, rule20, rule21, rule22, rule23, rule24, rule25, rule26, rule27, rule28, rule29, firstHolds, secondHolds, isBase, basesHold, sum, orderHolds, paymentHolds, detailsHold}
+use Rattle.message.specs.Rules.{some, failing, misnumbered, rule17, rule18, rule20, rule21, rule22, rule23, rule24, rule25, rule26, rule27, rule28, rule29, firstHolds, secondHolds, isBase, basesHold, sum, orderHolds, paymentHolds, detailsHold, totalsOf}
 use Rattle.message.specs.Kinds.{chartFor, rulesFor}
 use Rattle.message.specs.Faults.{rank, tell, tellAll, least, leastOf}
-use Rattle.report.specs.Reported.{bareOf, Room, rule10, isKind, headed, lines, asked, fits, early, Of}
+use Rattle.report.specs.declared.Report.{Report}
+use Rattle.report.specs.declared.Report.the-variants.{Accepted}
+use Rattle.report.specs.Reported.{bareOf, Room, roomOf, rule10, isKind, headed, lines, asked, fits, early, Of, Applies, countsOf, filled, Reported, accepted}
+use Rattle.report.specs.laws.ReportedLaws.{one-report}
 use Rattle.report.specs.laws.LateLaws.{late-none, late-lowest}
-use Rattle.demands.specs.MessageCases.{room, Holds, Gives, joined, exchange, unnamed, counted, Row9, Row10, Row11}
+use Rattle.demands.specs.MessageCases.{room, Holds, Gives, Totals, joined, exchange, unnamed, counted, Row9, Row10, Row11, Row13}
 
 -- ---- a message of a kind with these tags, whose rows are these
 module _ (k : Kind) (x : Room) (m ts ns : List ℕ) (o : Of k plainService m) (t : tagsOf plainService m ≡ ts) (p : run ts (only (chartFor k)) 0 ≡ placed) (r : rowsOf (tableOf k) ts ≡ ns)
@@ -47,6 +52,16 @@ module _ (k : Kind) (x : Room) (m ts ns : List ℕ) (o : Of k plainService m) (t
 
   pub gives : (n s : ℕ) → leastOf (tellAll (rulesFor k (segsOf plainService m ns))) ≡ fault.At n s → Gives x m n s
   gives n s h = late-lowest k plainService m o x ns reads e n s h
+
+-- ---- whatever meets the contract of a message with this reading to which nothing applies
+module _ (m rows : List ℕ) (i : Of Paymul plainService m) (r : Reading (chartFor Paymul) (tagsOf plainService m) rows) (free : (n s : ℕ) → Applies plainService m room n s → ⊥) where
+  pub answer : (x x′ : Lists) (y : Report) → roomOf x ≡ room → Reported plainService m x x′ y → left y x′ ≡ left (Accepted (countsOf Paymul (segsOf plainService m rows))) (filled Paymul plainService m rows x)
+  answer x x′ y e w =
+      one-report plainService m x x′ (filled Paymul plainService m rows x) y (Accepted (countsOf Paymul (segsOf plainService m rows))) w
+      (accepted (countsOf Paymul (segsOf plainService m rows)) Paymul i rows r (subst (λ (k : Room). (n s : ℕ) → Applies plainService m k n s → ⊥) (sym e) free) refl refl)
+
+  totals-by : (l : List ℕ) → totalsOf (segsOf plainService m rows) ≡ l → Totals m l
+  totals-by l t x x′ y e w = ap (λ (k : Left Report). k .lists .totals) (answer x x′ y e w) ∙ ap (λ (k : List ℕ). over k (x .totals)) t
 
 -- ---- row 9
 abbrev tags9 : List ℕ
@@ -207,3 +222,46 @@ eleven =
 
 pub read11 : Reading (chartFor Paymul) (tagsOf plainService (counted "SEQ++1'")) rows11
 read11 = reads Paymul room (counted "SEQ++1'") tags11 rows11 of-again tags-again run11 place11 early-again
+
+-- ---- row 13, in the message of row 9
+tags-half : tagsOf plainService (exchange "MOA+57:,5:EUR'") ≡ tags9
+unfolding joined text startsFrom pieces tagsFrom classOf lex valueOf codeFrom
+tags-half = refl
+
+of-half : Of Paymul plainService (exchange "MOA+57:,5:EUR'")
+unfolding joined text isKind pieces classOf lex elements valueAt sameList
+of-half = refl
+
+early-half : tellAll (early (bareOf plainService (exchange "MOA+57:,5:EUR'")) room) ≡ []
+unfolding joined text serves isAlphanumeric among distinct fitting pieces classOf lex valueOf elements valueAt sameList isStrange strangeFrom tagAt closedAt isReference rule10 isKind headed lines asked fits early tell tellAll
+early-half = refl
+
+late-half : leastOf (tellAll (rulesFor Paymul (segsOf plainService (exchange "MOA+57:,5:EUR'") rows9))) ≡ fault.None
+unfolding joined text startsFrom pieces classOf lex elements valueAt segsFrom codeFrom sameList digits numberOf oneMore isMark units fraction isCapital isCapitals those until stretches each some failing misnumbered rule17 rule18 rule20 rule21 rule22 rule23 rule24 rule25 rule26 rule27 rule28 rule29 firstHolds secondHolds isBase basesHold sum orderHolds paymentHolds detailsHold rank tell tellAll least leastOf
+late-half = refl
+
+totals-half : totalsOf (segsOf plainService (exchange "MOA+57:,5:EUR'") rows9) ≡ 500 ∷ []
+unfolding joined text startsFrom pieces classOf lex elements valueAt segsFrom those digits oneMore isMark units fraction
+totals-half = refl
+
+tags-bare : tagsOf plainService (exchange "MOA+57:5,:EUR'") ≡ tags9
+unfolding joined text startsFrom pieces tagsFrom classOf lex valueOf codeFrom
+tags-bare = refl
+
+of-bare : Of Paymul plainService (exchange "MOA+57:5,:EUR'")
+unfolding joined text isKind pieces classOf lex elements valueAt sameList
+of-bare = refl
+
+early-bare : tellAll (early (bareOf plainService (exchange "MOA+57:5,:EUR'")) room) ≡ []
+unfolding joined text serves isAlphanumeric among distinct fitting pieces classOf lex valueOf elements valueAt sameList isStrange strangeFrom tagAt closedAt isReference rule10 isKind headed lines asked fits early tell tellAll
+early-bare = refl
+
+late-bare : leastOf (tellAll (rulesFor Paymul (segsOf plainService (exchange "MOA+57:5,:EUR'") rows9))) ≡ fault.At 22 7
+unfolding joined text startsFrom pieces classOf lex elements valueAt segsFrom codeFrom sameList digits numberOf oneMore isMark units fraction isCapital isCapitals those until stretches each some failing misnumbered rule17 rule18 rule20 rule21 rule22 rule23 rule24 rule25 rule26 rule27 rule28 rule29 firstHolds secondHolds isBase basesHold sum orderHolds paymentHolds detailsHold rank tell tellAll least leastOf
+late-bare = refl
+
+pub thirteen : Row13
+thirteen =
+    let h = holds Paymul room (exchange "MOA+57:,5:EUR'") tags9 rows9 of-half tags-half run9 place9 early-half late-half in
+    let r = reads Paymul room (exchange "MOA+57:,5:EUR'") tags9 rows9 of-half tags-half run9 place9 early-half in
+    (h, totals-by (exchange "MOA+57:,5:EUR'") rows9 of-half r (h .free) (500 ∷ []) totals-half, gives Paymul room (exchange "MOA+57:5,:EUR'") tags9 rows9 of-bare tags-bare run9 place9 early-bare 22 7 late-bare)

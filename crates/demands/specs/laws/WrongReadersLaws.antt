@@ -31,13 +31,12 @@ use Rattle.report.specs.declared.Counts.{Counts}
 use Rattle.report.specs.declared.Report.{Report}
 use Rattle.report.specs.declared.Report.the-variants.{Accepted, Refused}
 use Rattle.report.specs.Reported.{Room, Of, Applies, roomOf, countsOf, filled, Reported, accepted, refused}
-use Rattle.report.specs.laws.ReportedLaws.{one-report}
 use Rattle.report.specs.laws.KindLaws.{one-kind}
 use Rattle.chart.proofs.Theorems.{one-reading}
 use Rattle.demands.specs.Runs.{Visit, Run, Over, none, also, Told}
 use Rattle.demands.specs.laws.RunLaws.{run-over}
 use Rattle.demands.specs.MessageCases.{room, joined, Gives}
-use Rattle.demands.specs.laws.MessageCasesLaws.{nine, eleven, rows9, rows11, read9, read11}
+use Rattle.demands.specs.laws.MessageCasesLaws.{answer, nine, eleven, rows9, rows11, read9, read11}
 use Rattle.demands.specs.laws.AnsweringLaws.{answering}
 use Rattle.demands.specs.WrongReaders.{Reader, Right, good, longer, bad, clear, two, counts, WrongReaders}
 
@@ -58,14 +57,8 @@ totals11 : totalsOf (segsOf plainService longer rows11) ≡ 200000 ∷ 100000 �
 unfolding joined text startsFrom pieces classOf lex elements valueAt segsFrom those digits oneMore isMark units fraction
 totals11 = refl
 
--- ---- whatever meets the contract of a message with this reading to which nothing applies
+-- ---- the counts of a message with this reading
 module _ (m rows : List ℕ) (i : Of Paymul plainService m) (r : Reading (chartFor Paymul) (tagsOf plainService m) rows) where
-  module _ (free : (n s : ℕ) → Applies plainService m room n s → ⊥) where
-    answer : (x x′ : Lists) (y : Report) → roomOf x ≡ room → Reported plainService m x x′ y → left y x′ ≡ left (Accepted (countsOf Paymul (segsOf plainService m rows))) (filled Paymul plainService m rows x)
-    answer x x′ y e w =
-        one-report plainService m x x′ (filled Paymul plainService m rows x) y (Accepted (countsOf Paymul (segsOf plainService m rows))) w
-        (accepted (countsOf Paymul (segsOf plainService m rows)) Paymul i rows r (subst (λ (k : Room). (n s : ℕ) → Applies plainService m k n s → ⊥) (sym e) free) refl refl)
-
   counts-by : (x x′ : Lists) (y : Report) → Reported plainService m x x′ y → (c : Counts) → y ≡ Accepted c → c ≡ countsOf Paymul (segsOf plainService m rows)
   counts-by x x′ y (accepted d k o ns a f e p) c u =
       let z : c ≡ d = cc in

@@ -6,7 +6,7 @@ use lib.ListN.{length}
 use Rattle.values.specs.Numbers.{valueFrom}
 use Rattle.values.specs.forms.Values.{units, wholeOf}
 use Rattle.values.specs.laws.ValuesLaws.{less-next}
-use Rattle.values.specs.laws.AmountLaws.{unit-ends, unit-none, unit-mark, unit-lone, unit-other, unit-more}
+use Rattle.values.specs.laws.AmountLaws.{unit-ends, unit-none, unit-mark, unit-other, unit-more}
 use Rattle.values.proofs.whole_at.Statement.{statement}
 use Rattle.values.proofs.whole_at.Tie as tie
 use Rattle.values.proofs.whole_at.Reads as reads
@@ -15,7 +15,7 @@ use Rattle.service.proofs.is_mark.Reads as is-mark-reads
 use Rattle.values.proofs.next_at.Reads as next-at-reads
 use Rattle.values.proofs.one_more.Reads as one-more-reads
 
-ruleset laws = (less-next, unit-ends, unit-none, unit-mark, unit-lone, unit-other, unit-more)
+ruleset laws = (less-next, unit-ends, unit-none, unit-mark, unit-other, unit-more)
 
 abbrev Inv-loop : tie.InvT-loop
 Inv-loop s at v i₀ acc₀ count₀ i acc count = wholeOf (valueFrom v at s) ≡ units count acc (valueFrom v i s)
@@ -38,9 +38,6 @@ is-mark-requires c κs = search (laws, needs)
 returns : tie.Need-returns Inv-loop μ-loop
 returns c = search (laws, needs)
 
-returns-2 : tie.Need-returns-2 Inv-loop μ-loop
-returns-2 c = search (laws, needs)
-
 one-more-requires : tie.Need-one-more-requires Inv-loop μ-loop
 one-more-requires c κs = search (laws, needs)
 
@@ -50,8 +47,8 @@ enum-known-k c = search (laws, needs)
 enum-told : tie.Need-enum-told Inv-loop μ-loop
 enum-told c = search (laws, needs)
 
-returns-3 : tie.Need-returns-3 Inv-loop μ-loop
-returns-3 c = search (laws, needs)
+returns-2 : tie.Need-returns-2 Inv-loop μ-loop
+returns-2 c = search (laws, needs)
 
 loop-less : tie.Need-loop-less Inv-loop μ-loop
 loop-less c = search (laws, needs)
@@ -62,11 +59,11 @@ loop-again c = search (laws, needs)
 enum-told-2 : tie.Need-enum-told-2 Inv-loop μ-loop
 enum-told-2 c = search (laws, needs)
 
+returns-3 : tie.Need-returns-3 Inv-loop μ-loop
+returns-3 c = search (laws, needs)
+
 returns-4 : tie.Need-returns-4 Inv-loop μ-loop
 returns-4 c = search (laws, needs)
-
-returns-5 : tie.Need-returns-5 Inv-loop μ-loop
-returns-5 c = search (laws, needs)
 
 pub whole-at-spec : {M : Type 1} → statement M
 whole-at-spec =
@@ -79,13 +76,12 @@ whole-at-spec =
     enum-known-t
     is-mark-requires
     returns
-    returns-2
     one-more-requires
     enum-known-k
     enum-told
-    returns-3
+    returns-2
     loop-less
     loop-again
     enum-told-2
-    returns-4
-    returns-5)
+    returns-3
+    returns-4)

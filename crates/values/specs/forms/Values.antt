@@ -62,10 +62,10 @@ abbrev pub onward : Number → (ℕ → Part) → Part
 onward (number.Of n) f = f n
 onward number.Not f = nothing
 
--- the whole part that digits write after `acc`, and then the end or a mark
+-- the whole part that digits write after `acc`, and then the end or a mark; before a mark there may be none
 unfoldable pub units : ℕ → ℕ → List ℕ → Part
 units count acc [] = if (ltb 0 count) (ends acc) nothing
-units count acc (b ∷ s) = if (isMark b) (if (ltb 0 count) (left acc s) nothing) (onward (oneMore count acc b) (λ (n : ℕ). units 1 n s))
+units count acc (b ∷ s) = if (isMark b) (left acc s) (onward (oneMore count acc b) (λ (n : ℕ). units 1 n s))
 
 -- the whole part of a value
 abbrev pub wholeOf : List ℕ → Part

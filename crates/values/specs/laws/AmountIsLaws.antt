@@ -16,7 +16,7 @@ use Rattle.service.specs.Tests.{if}
 use Rattle.values.specs.declared.Amount.{Amount}
 use Rattle.values.specs.declared.Amount.the-variants as amount
 use Rattle.values.specs.Numbers.{Digits, none, more, Unled, worth}
-use Rattle.values.specs.Amounts.{Whole, Mark, Fraction, AmountIs, whole, marked}
+use Rattle.values.specs.Amounts.{Whole, BeforeMark, Mark, Fraction, AmountIs, whole, marked}
 use Rattle.values.specs.declared.Number.{Number}
 use Rattle.values.specs.declared.Number.the-variants as number
 use Rattle.values.specs.forms.Values.{oneMore, Part, ends, left, nothing, onward, units, wholeOf, fraction, together, amountBy, amountOf}
@@ -104,7 +104,7 @@ few p d h u k z = go (decLe (length p) 11)
 -- a whole part that was read: all the bytes, or those before a mark
 data Splits (l : List ℕ) (k : Part) : Type 0 where
   in-all : Whole l → k ≡ ends (worth l) → Splits l k
-  at-mark : (w f : List ℕ) (m : ℕ) → l ≡ w ++ m ∷ f → Whole w → Mark m → k ≡ left (worth w) f → Splits l k
+  at-mark : (w f : List ℕ) (m : ℕ) → l ≡ w ++ m ∷ f → BeforeMark w → Mark m → k ≡ left (worth w) f → Splits l k
 
 -- a digit that was taken, and what it makes
 record Taken (count acc b n : ℕ) : Type 0 where
@@ -153,7 +153,7 @@ module _ (p : List ℕ) (b : ℕ) (l : List ℕ) (k : Part) (d : nothing ≡ k �
       rw append-one at (ih r′ (ap (λ (c : ℕ). units 1 c l) (worth-more p b ∙ sym (a .sum)) ∙ q))
 
   read-by : (m : Bool) → isMark b ≡ m → if m (left (worth p) l) (onward (oneMore 1 (worth p) b) (λ (n : ℕ). units 1 n l)) ≡ k → Splits (p ++ b ∷ l) k
-  read-by true c q = at-mark p l b refl r (is-mark b c) (sym q)
+  read-by true c q = at-mark p l b refl (inr r) (is-mark b c) (sym q)
   read-by false c q = read-digit (oneMore 1 (worth p) b) refl q
 
 read-units : (p l : List ℕ) (k : Part) → (nothing ≡ k → ⊥) → Whole p → units 1 (worth p) l ≡ k → Splits (p ++ l) k
@@ -162,9 +162,9 @@ read-units p [] k d r e = rw (append-nil p) (in-all r (sym e))
 read-units p (b ∷ l) k d r e = read-by p b l k d r (λ r′ q. read-units (p ++ b ∷ []) l k d r′ q) (isMark b) refl e
 
 read-whole : (l : List ℕ) (k : Part) → (nothing ≡ k → ⊥) → wholeOf l ≡ k → Splits l k
-unfolding units
+unfolding units worth
 read-whole [] k d e = absurd (d e)
-read-whole (b ∷ l) k d e = by-mark (isMark b) e
+read-whole (b ∷ l) k d e = by-mark (isMark b) refl e
   where
     by-digit : (j : Number) → oneMore 0 0 b ≡ j → onward j (λ (n : ℕ). units 1 n l) ≡ k → Splits (b ∷ l) k
     by-digit number.Not c q = absurd (d q)
@@ -174,9 +174,9 @@ read-whole (b ∷ l) k d e = by-mark (isMark b) e
         let r : Whole (b ∷ []) = record { digit = digit-one b (a .low) (a .high); some = omega arith; most = omega arith; lead = unled-one b } in
         read-units (b ∷ []) l k d r (ap (λ (c : ℕ). units 1 c l) w ∙ q)
 
-    by-mark : (m : Bool) → if m nothing (onward (oneMore 0 0 b) (λ (n : ℕ). units 1 n l)) ≡ k → Splits (b ∷ l) k
-    by-mark true q = absurd (d q)
-    by-mark false q = by-digit (oneMore 0 0 b) refl q
+    by-mark : (m : Bool) → isMark b ≡ m → if m (left 0 l) (onward (oneMore 0 0 b) (λ (n : ℕ). units 1 n l)) ≡ k → Splits (b ∷ l) k
+    by-mark true c q = at-mark [] l b refl (inl refl) (is-mark b c) (sym q)
+    by-mark false c q = by-digit (oneMore 0 0 b) refl q
 
 -- the amount, by the parts
 read-together : (w f : List ℕ) (n : ℕ) (x : Amount) → fraction 100 0 f ≡ x → together (worth w) x ≡ amount.Of n → Fraction f × (n ≡ worth w * 1000 + worth f * 10 ^ (3 - length f))
@@ -229,12 +229,16 @@ write-whole w z r = go w (r .digit) (r .some) (r .lead) (r .most)
         let h′ : 0 < length (b ∷ []) = omega arith in
         rw (digit-no-mark b x) (rw (takes-first b x y) (ap (λ (c : ℕ). units 1 c (q ++ z)) (sym (worth-one b)) ∙ write-units (b ∷ []) q z (digit-one b x y) h′ d u s))
 
+-- what stands before a mark
+write-before : (w f : List ℕ) (m : ℕ) → BeforeMark w → Mark m → wholeOf (w ++ m ∷ f) ≡ left (worth w) f
+unfolding units worth
+write-before w f m (inl e) k = rw (e, mark-is m k)
+write-before w f m (inr r) k = write-whole w (m ∷ f) r ∙ rw (mark-is m k)
+
 pub of-amount : (l : List ℕ) (n : ℕ) → AmountIs l n → amountOf l ≡ amount.Of n
 unfolding units
 of-amount l n (whole r e) = ap amountBy (ap wholeOf (sym (append-nil l)) ∙ write-whole l [] r) ∙ ap amount.Of (sym e)
-of-amount l n (marked w f m q r k g e) =
-    let z : units 1 (worth w) (m ∷ f) ≡ left (worth w) f = rw (mark-is m k) in
-    ap amountBy (ap wholeOf q ∙ write-whole w (m ∷ f) r ∙ z) ∙ ap (together (worth w)) (write-fraction f g) ∙ ap amount.Of (sym e)
+of-amount l n (marked w f m q r k g e) = ap amountBy (ap wholeOf q ∙ write-before w f m r k) ∙ ap (together (worth w)) (write-fraction f g) ∙ ap amount.Of (sym e)
 
 -- there is none exactly if the answer is `Not`
 pub amount-not : (l : List ℕ) → amountOf l ≡ amount.Not → (n : ℕ) → AmountIs l n → ⊥
@@ -271,8 +275,13 @@ whole-below w r =
     let t : 0 < 10 = omega arith in
     let g = pow-le-pow-right {n = 10} t {i = length w} {j = 12} (r .most) in omega arith
 
+before-below : (w : List ℕ) → BeforeMark w → worth w < 1000000000000
+unfolding worth
+before-below w (inl e) = rw e (omega arith)
+before-below w (inr r) = whole-below w r
+
 pub amount-below : (l : List ℕ) (n : ℕ) → AmountIs l n → n < 1000000000000000
 amount-below l n (whole r e) = let w = whole-below l r in omega arith
 amount-below l n (marked w f m q r k g e) =
-    let x = whole-below w r in
+    let x = before-below w r in
     let y = thousandths f (g .digit) (g .most) in omega arith

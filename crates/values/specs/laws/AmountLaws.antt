@@ -115,13 +115,9 @@ module _ (x : Part) (v : Service) (s : List ℕ) (i count acc : ℕ) (inv : x �
     unit-by : x ≡ units count acc (b ∷ valueFrom v n s)
     unit-by = inv ∙ ap (units count acc) (reads-on v s i k c b n e .0)
 
-    pub unit-mark : m ≡ true → 0 < count → left acc (valueFrom v n s) ≡ x
+    pub unit-mark : m ≡ true → left acc (valueFrom v n s) ≡ x
     unfolding units
-    unit-mark t h = sym (unit-by ∙ simp (sym q ∙ t, lt-ltb _ _ h))
-
-    pub unit-lone : m ≡ true → count ≤ 0 → nothing ≡ x
-    unfolding units
-    unit-lone t h = sym (unit-by ∙ simp (sym q ∙ t, le-ltb _ _ h))
+    unit-mark t = sym (unit-by ∙ simp (sym q ∙ t))
 
     module _ (f : m ≡ false) (d : Number) (o : d ≡ oneMore count acc b) where
       pub unit-other : d ≡ number.Not → nothing ≡ x
