@@ -10,7 +10,12 @@
 #include <time.h>
 #include "../include/twineherald.h"
 
-enum { LISTS = 9999, ROUNDS = 60, STACK = 1 << 20, MOST_STACK = 3600 };
+/* How many times each is timed. */
+#ifndef ROUNDS
+#define ROUNDS 60
+#endif
+
+enum { LISTS = 9999, STACK = 1 << 20, MOST_STACK = 3600 };
 
 typedef struct {
     const uint8_t *bytes;
