@@ -8,7 +8,7 @@ use Rattle.interchange.specs.declared.Opening.the-variants.{Refused}
 use Rattle.interchange.specs.Messages.{Extent, closed, messagesOf}
 use Rattle.interchange.specs.Envelope.{refusal, bodyOf}
 use Rattle.interchange.specs.Opened.{Opened, OpenedAs}
-use Rattle.interchange.specs.Damage.{Stretch, Mark, whole, next, hit, replaced, damaged, Within}
+use Rattle.damage.specs.Damage.{Stretch, Mark, whole, next, hit, replaced, damaged, Within}
 use Rattle.demands.specs.OtherMessages.{Chosen, One}
 
 -- three messages

@@ -12,7 +12,7 @@ use Rattle.interchange.specs.declared.Opening.the-variants.{Refused}
 use Rattle.interchange.specs.Messages.{Extent, closed, messagesOf}
 use Rattle.interchange.specs.Envelope.{refusal, bodyOf}
 use Rattle.interchange.specs.Opened.{Opened, OpenedAs}
-use Rattle.interchange.specs.Damage.{lastClosed, Stretch, Mark, next, hit, replaced, damaged, Within}
+use Rattle.damage.specs.Damage.{lastClosed, Stretch, Mark, next, hit, replaced, damaged, Within}
 use Rattle.lent.specs.Lists.{Lists}
 use Rattle.report.specs.declared.Counts.{Counts}
 use Rattle.report.specs.declared.Report.{Report}
@@ -20,6 +20,8 @@ use Rattle.report.specs.declared.Report.the-variants as report
 use Rattle.report.specs.Reported.{Applies, Lowest, roomOf, Reported}
 use Rattle.rewrite.specs.declared.Rewriting.the-variants.{Written}
 use Rattle.rewrite.specs.Plain.{valuesOf, rewritten, rewritingOf, roomAfter}
+use Rattle.cases.specs.Cases.{Cases}
+use Rattle.cases.specs.AdviceCases.{AdviceCases}
 use Rattle.demands.specs.Answering.{Answering}
 use Rattle.demands.specs.Refusals.{Refusals}
 use Rattle.demands.specs.Accepting.{Accepting}
@@ -27,8 +29,6 @@ use Rattle.demands.specs.OtherMessages.{Chosen, Unharmed, One, only}
 use Rattle.demands.specs.Predecessor.{Predecessor}
 use Rattle.demands.specs.DamageCases.{DamageCases}
 use Rattle.demands.specs.Verdicts.{Keeps}
-use Rattle.demands.specs.Cases.{Cases}
-use Rattle.demands.specs.AdviceCases.{AdviceCases}
 use Rattle.demands.specs.OneAnswer.{OneAnswer}
 use Rattle.demands.specs.WrongReaders.{WrongReaders}
 

@@ -1,9 +1,6 @@
 pub mod Runs
 pub mod OtherMessages
 pub mod Verdicts
-pub mod MessageCases
-pub mod Cases
-pub mod AdviceCases
 pub mod OneAnswer
 pub mod Refusals
 pub mod Accepting

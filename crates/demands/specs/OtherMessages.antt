@@ -9,7 +9,7 @@ use Rattle.segments.specs.SegmentList.{segmentsAfter}
 use Rattle.interchange.specs.Messages.{Extent, closed, startsAt, endsAt, messagesOf}
 use Rattle.interchange.specs.Envelope.{bodyOf}
 use Rattle.interchange.specs.Opened.{Opened}
-use Rattle.interchange.specs.Damage.{lastClosed, Before, Mark, whole, damaged, Hits, Beside, Stays}
+use Rattle.damage.specs.Damage.{lastClosed, Before, Mark, whole, damaged, Hits, Beside, Stays}
 use Rattle.lent.specs.Lists.{Lists, Left}
 use Rattle.report.specs.declared.Report.{Report}
 use Rattle.walk.specs.declared.Walked.the-variants.{Message}

@@ -8,7 +8,7 @@ use Rattle.values.specs.Text.{text}
 use Rattle.interchange.specs.Messages.{Extent, closed, unclosed, messagesOf}
 use Rattle.interchange.specs.Envelope.{bodyOf}
 use Rattle.interchange.specs.Opened.{Opened}
-use Rattle.interchange.specs.Damage.{Before, Stretch, hit, next, replaced, Within}
+use Rattle.damage.specs.Damage.{Before, Stretch, hit, next, replaced, Within}
 use Rattle.demands.specs.OtherMessages.{Unharmed, only}
 
 -- four messages, the first without a UNT

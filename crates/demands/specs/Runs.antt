@@ -3,8 +3,7 @@ use Prim.Native.Nat.{ℕ}
 use mathlib.Core.Path.{_≡_}
 use mathlib.Core.List.{List, [], _∷_}
 use Rattle.service.specs.declared.Service.{Service}
-use Rattle.interchange.specs.Messages.{Extent, startsAt, endsAt}
-use Rattle.interchange.specs.Damage.{bytesOf}
+use Rattle.interchange.specs.Messages.{Extent, startsAt, endsAt, bytesOf}
 use Rattle.lent.specs.Lists.{Lists, Left}
 use Rattle.report.specs.declared.Report.{Report}
 use Rattle.report.specs.Reported.{Reported}

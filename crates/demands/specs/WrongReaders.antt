@@ -11,8 +11,8 @@ use Rattle.report.specs.declared.Counts.{Counts}
 use Rattle.report.specs.declared.Report.{Report}
 use Rattle.report.specs.declared.Report.the-variants.{Accepted, Refused}
 use Rattle.report.specs.Reported.{roomOf, Reported}
+use Rattle.cases.specs.MessageCases.{room, exchange, counted}
 use Rattle.demands.specs.Runs.{Visit, Run}
-use Rattle.demands.specs.MessageCases.{room, exchange, counted}
 
 -- a reader of messages: for a message's bytes and lent lists its answer, and the lists after it
 abbrev pub Reader : Type 0

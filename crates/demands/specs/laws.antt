@@ -1,11 +1,8 @@
 pub mod AcceptingLaws
-pub mod AdviceCasesLaws
 pub mod AnsweringLaws
-pub mod CasesLaws
 pub mod DamageCasesLaws
 pub mod DamageWhole
 pub mod DemandsMet
-pub mod MessageCasesLaws
 pub mod OneAnswerLaws
 pub mod PredecessorLaws
 pub mod RefusalsLaws

@@ -5,8 +5,7 @@ use mathlib.Core.List.{List, [], _∷_}
 use Rattle.service.specs.declared.Service.{Service}
 use Rattle.segments.specs.SegmentList.{Piece, finished, segmentsFrom}
 use Rattle.parts.specs.Trimmed.{valuesAt}
-use Rattle.interchange.specs.Messages.{Extent, isClosed, endsClosed}
-use Rattle.interchange.specs.Damage.{bytesOf}
+use Rattle.interchange.specs.Messages.{Extent, isClosed, bytesOf, endsClosed}
 
 -- finished segments of s and of s′, as many, each with the same values
 pub data Alike (v : Service) (s : List ℕ) (v′ : Service) (s′ : List ℕ) : List Piece → List Piece → Type 0 where

@@ -3,7 +3,6 @@ pub mod Envelope
 pub mod Opened
 pub mod Closed
 pub mod Walk
-pub mod Damage
 pub mod Alike
 pub mod forms
 pub mod laws

@@ -1,8 +1,8 @@
 -- Where messages lie in a list of segments, as document 01, "Bytes to segments", says.
-use Prim.Native.Nat.{ℕ, _+_}
+use Prim.Native.Nat.{ℕ, _+_, _-_}
 use mathlib.Core.List.{List, [], _∷_}
 use mathlib.Core.Bool.{Bool, true, false}
-use lib.ListN.{length}
+use lib.ListN.{length, take, drop}
 use lib.Dec.{eqb, ltb}
 use Rattle.service.specs.declared.Service.{Service}
 use Rattle.service.specs.Tests.{if, isEmpty}
@@ -45,6 +45,10 @@ endsAt (unclosed a e) = e
 abbrev pub isClosed : Extent → Bool
 isClosed (closed a e) = true
 isClosed (unclosed a e) = false
+
+-- the bytes of a message
+abbrev pub bytesOf : List ℕ → Extent → List ℕ
+bytesOf s m = take (endsAt m - startsAt m) (drop (startsAt m) s)
 
 -- where a finished segment ends, "terminator included"
 abbrev pub pastOf : Piece → ℕ

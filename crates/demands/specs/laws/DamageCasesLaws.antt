@@ -16,8 +16,8 @@ use Rattle.interchange.specs.Messages.{closed, tagAt, extentOf, messagesOf}
 use Rattle.interchange.specs.Envelope.{isReference, isHeader, firstAt, refusal}
 use Rattle.interchange.specs.forms.Answers.{openedBy, openingOf}
 use Rattle.interchange.specs.laws.OpenedLaws.{is-opening, opened}
-use Rattle.interchange.specs.Damage.{lastClosed, Before, here, later, Mark, Within, Hits, replaced, damaged}
-use Rattle.interchange.specs.Damage as damage
+use Rattle.damage.specs.Damage.{lastClosed, Before, here, later, Mark, Within, Hits, replaced, damaged}
+use Rattle.damage.specs.Damage as damage
 use Rattle.demands.specs.OtherMessages.{Chosen}
 use Rattle.demands.specs.DamageCases.{three, messagesIn, both, first, inRow, third, DamageCases}
 

@@ -1,5 +1,5 @@
 -- Demand 3. Assumes nothing.
-use Prim.Native.Nat.{ℕ, _+_, _≤_}
+use Prim.Native.Nat.{ℕ, _≤_}
 use native.Mathlib.Omega.{arith}
 use mathlib.Core.Path.{_≡_, refl, sym, _∙_, ap, subst}
 use mathlib.Core.Logic.{_⊎_, inl, inr, ⊎-elim}
@@ -9,16 +9,16 @@ use lib.ListN.{length}
 use Rattle.service.specs.declared.Service.{Service}
 use Rattle.service.specs.Tests.{lastOf}
 use Rattle.interchange.specs.declared.Opening.the-variants.{Opens, Refused}
-use Rattle.interchange.specs.Messages.{Extent, closed, isClosed, startsAt, endsAt, messagesOf}
+use Rattle.interchange.specs.Messages.{Extent, closed, isClosed, startsAt, endsAt, bytesOf, messagesOf}
 use Rattle.interchange.specs.Envelope.{refusal, bodyOf}
 use Rattle.interchange.specs.Opened.{Opened, OpenedAs}
 use Rattle.interchange.specs.forms.Answers.{openingOf}
 use Rattle.interchange.specs.laws.OpenedLaws.{is-opening, opened, opens}
 use Rattle.interchange.specs.laws.WalkTheorems.{owns}
 use Rattle.interchange.specs.laws.ZeroTheorems.{walks-zero}
-use Rattle.interchange.specs.Damage.{lastClosed, bytesOf, Stretch, Mark, whole, next, hit, replaced, damaged, Within, Hits, Beside}
-use Rattle.interchange.specs.Damage as hits
-use Rattle.interchange.specs.laws.DamageTheorem.{damage, before-unt, opens-or-refused}
+use Rattle.damage.specs.Damage.{lastClosed, Stretch, Mark, whole, next, hit, replaced, damaged, Within, Hits, Beside}
+use Rattle.damage.specs.Damage as hits
+use Rattle.damage.specs.laws.DamageTheorem.{damage, before-unt, opens-or-refused}
 use Rattle.report.specs.laws.ReportedLaws.{one-report}
 use Rattle.demands.specs.laws.RunLaws.{inside-all, steps, owned, step-message, run-over, walked-again}
 use Rattle.demands.specs.OtherMessages.{Chosen, SameReport, Unharmed, One, only}

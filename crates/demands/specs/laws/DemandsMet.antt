@@ -14,7 +14,8 @@ use Rattle.report.specs.declared.Report.the-variants as report
 use Rattle.report.specs.Reported.{Applies, Lowest, offsetOf, roomOf, Reported, accepted, refused}
 use Rattle.report.specs.laws.ReportedLaws.{one-report}
 use Rattle.rewrite.specs.laws.RewriteTheorems.{one-to-one, values-kept, written-so, rewrites-again}
-use Rattle.demands.specs.laws.AdviceCasesLaws.{advice-cases}
+use Rattle.cases.specs.laws.AdviceCasesLaws.{advice-cases}
+use Rattle.cases.specs.laws.CasesLaws as cases
 use Rattle.demands.specs.laws.AnsweringLaws.{answering}
 use Rattle.demands.specs.laws.RefusalsLaws.{refusals}
 use Rattle.demands.specs.laws.AcceptingLaws.{accepting}
@@ -23,7 +24,6 @@ use Rattle.demands.specs.laws.PredecessorLaws.{predecessor}
 use Rattle.demands.specs.laws.DamageCasesLaws.{damage-cases}
 use Rattle.demands.specs.laws.WrongReadersLaws.{wrong-readers}
 use Rattle.demands.specs.laws.RewriteKeeps.{keeps}
-use Rattle.demands.specs.laws.CasesLaws as cases
 use Rattle.demands.specs.laws.OneAnswerLaws as one
 use Rattle.demands.specs.Demands.{Demands}
 

@@ -14,8 +14,8 @@ use Rattle.interchange.specs.Messages.{Extent, closed, unclosed, startsAt, ends
 use Rattle.interchange.specs.Envelope.{isReference, isHeader, firstAt, bodyOf}
 use Rattle.interchange.specs.forms.Answers.{openedBy, openingOf}
 use Rattle.interchange.specs.laws.OpenedLaws.{opened}
-use Rattle.interchange.specs.Damage.{Before, here, later, Mark, whole, replaced, Beside}
-use Rattle.interchange.specs.Damage as damage
+use Rattle.damage.specs.Damage.{Before, here, later, Mark, whole, replaced, Beside}
+use Rattle.damage.specs.Damage as damage
 use Rattle.walk.specs.Frame.{message, stepAt, stepFrom}
 use Rattle.demands.specs.Runs.{Steps}
 use Rattle.demands.specs.Runs as runs

@@ -8,11 +8,10 @@ use Rattle.service.specs.declared.Service.{Service}
 use Rattle.service.specs.Service.{plainService, Fits}
 use Rattle.service.specs.laws.FitLaws.{plain-fits, characters-fit}
 use Rattle.interchange.specs.declared.Opening.the-variants.{Opens}
-use Rattle.interchange.specs.Messages.{Extent, startsAt, endsAt}
+use Rattle.interchange.specs.Messages.{Extent, startsAt, endsAt, bytesOf}
 use Rattle.interchange.specs.forms.Answers.{openingOf}
 use Rattle.interchange.specs.laws.OpenedLaws.{opened}
 use Rattle.interchange.specs.laws.ZeroTheorems.{walks-zero}
-use Rattle.interchange.specs.Damage.{bytesOf}
 use Rattle.lent.specs.Lists.{Lists}
 use Rattle.rewrite.specs.Plain.{rewritten}
 use Rattle.rewrite.specs.laws.RewriteTheorems.{opens-again}

@@ -1,5 +1,5 @@
 -- A walk over an interchange that opens finds exactly its messages, and tells of each what its own bytes say. Assumes nothing.
-use Prim.Native.Nat.{ℕ, _+_, _-_, _≤_, _<_}
+use Prim.Native.Nat.{ℕ, _+_, _≤_, _<_}
 use native.Mathlib.Omega.{arith}
 use native.Mathlib.Decide.{decLt}
 use mathlib.Core.Path.{_≡_, refl, sym, _∙_, ap, ap₂, subst}
@@ -12,7 +12,7 @@ use Rattle.segments.specs.laws.ListLaws.{segments-after}
 use Rattle.segments.specs.laws.ClearLaws.{passed, upto-start}
 use Rattle.interchange.specs.declared.Found.the-variants as found
 use Rattle.interchange.specs.declared.Opening.the-variants.{Opens}
-use Rattle.interchange.specs.Messages.{Kind, head, trailer, last, other, cut, kindOf, Extent, startsAt, endsAt, extentOf, messagesBy, messagesOf, foundFrom}
+use Rattle.interchange.specs.Messages.{Kind, head, trailer, last, other, cut, kindOf, Extent, startsAt, endsAt, bytesOf, extentOf, messagesBy, messagesOf, foundFrom}
 use Rattle.interchange.specs.Envelope.{refusal, bodyOf}
 use Rattle.interchange.specs.forms.Answers.{openingOf}
 use Rattle.interchange.specs.laws.OpenedLaws.{opened}
@@ -23,9 +23,9 @@ use Rattle.interchange.specs.Walk as walk
 use Rattle.interchange.specs.laws.WalkLaws.{Placed}
 use Rattle.interchange.specs.laws.WalkLaws as placed
 use Rattle.interchange.specs.laws.WalkTheorems.{header, body-is}
-use Rattle.interchange.specs.Damage.{bytesOf, Mark, hit, Beside, Stays}
-use Rattle.interchange.specs.Damage as damage
 use Rattle.interchange.specs.laws.OwnLaws.{message-holds}
+use Rattle.damage.specs.Damage.{Mark, hit, Beside, Stays}
+use Rattle.damage.specs.Damage as damage
 use Rattle.lent.specs.Lists.{Lists}
 use Rattle.report.specs.declared.Report.{Report}
 use Rattle.report.specs.Reported.{Reported}

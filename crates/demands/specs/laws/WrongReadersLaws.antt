@@ -13,11 +13,10 @@ use Rattle.values.specs.Text.{text, sameList}
 use Rattle.values.specs.forms.Values.{digits, oneMore, units, fraction}
 use Rattle.interchange.specs.declared.Refusal.{Refusal}
 use Rattle.interchange.specs.declared.Opening.the-variants.{Opens}
-use Rattle.interchange.specs.Messages.{Extent, closed, tagAt, extentOf, messagesOf}
+use Rattle.interchange.specs.Messages.{Extent, closed, bytesOf, tagAt, extentOf, messagesOf}
 use Rattle.interchange.specs.Envelope.{isReference, isHeader, firstAt, bodyOf}
 use Rattle.interchange.specs.forms.Answers.{openedBy, openingOf}
 use Rattle.interchange.specs.laws.ZeroTheorems.{walks-zero}
-use Rattle.interchange.specs.Damage.{bytesOf}
 use Rattle.lent.specs.Lists.{Lists, Left, left}
 use Rattle.lent.specs.Over.{over}
 use Rattle.chart.specs.Chart.{Reading}
@@ -33,10 +32,10 @@ use Rattle.report.specs.declared.Report.the-variants.{Accepted, Refused}
 use Rattle.report.specs.Reported.{Room, Of, Applies, roomOf, countsOf, filled, Reported, accepted, refused}
 use Rattle.report.specs.laws.KindLaws.{one-kind}
 use Rattle.chart.proofs.Theorems.{one-reading}
+use Rattle.cases.specs.MessageCases.{room, joined, Gives}
+use Rattle.cases.specs.laws.MessageCasesLaws.{answer, nine, eleven, rows9, rows11, read9, read11}
 use Rattle.demands.specs.Runs.{Visit, Run, Over, none, also, Told}
 use Rattle.demands.specs.laws.RunLaws.{run-over}
-use Rattle.demands.specs.MessageCases.{room, joined, Gives}
-use Rattle.demands.specs.laws.MessageCasesLaws.{answer, nine, eleven, rows9, rows11, read9, read11}
 use Rattle.demands.specs.laws.AnsweringLaws.{answering}
 use Rattle.demands.specs.WrongReaders.{Reader, Right, good, longer, bad, clear, two, counts, WrongReaders}
 

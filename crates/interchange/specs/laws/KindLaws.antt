@@ -1,4 +1,4 @@
--- What the tests of the code say of a segment's kind. Assumes nothing.
+-- What the tests of the code say of a segment's kind, and a kind of the tag. Assumes nothing.
 use Prim.Native.Nat.{ℕ, _≤_, _<_}
 use native.Mathlib.Decide.{decLt}
 use native.Mathlib.Omega.{arith}
@@ -18,7 +18,9 @@ use Rattle.segments.specs.laws.SegmentsLaws.{segment-by}
 use Rattle.segments.specs.SegmentList.{finished, segmentsFrom}
 use Rattle.segments.specs.laws.SyncLaws.{rest-nothing}
 use Rattle.segments.specs.laws.ListLaws.{listBy, segments-at}
-use Rattle.interchange.specs.Messages.{tagAt, head, trailer, last, other, kindOf}
+use Rattle.values.specs.Text.{text, says}
+use Rattle.values.specs.laws.TextLaws.{same-eq}
+use Rattle.interchange.specs.Messages.{tagAt, head, trailer, last, other, kindBy, kindOf}
 use Rattle.values.specs.forms.Codes.{UNH, UNT, UNZ}
 use Rattle.interchange.specs.forms.Kinds.{Tells, kindCode, isEnd}
 use Rattle.interchange.specs.laws.TellsLaws.{kind-tells}
@@ -81,3 +83,14 @@ list-end v s n false h = absurd (let z : _≡_ {A = ℕ} 0 1 = cc in omega arith
 pub end-list : (v : Service) (s : List ℕ) (g n : ℕ) (b : Bool) → b ≡ isEnd s g n → b ≡ true → segmentsFrom v s n ≡ []
 unfolding isEnd
 end-list v s g n b c e = list-end v s n (eqb g UNZ) (sym c ∙ e)
+
+-- ---- a kind says the tag
+head-by : (g : List ℕ) (t u x e : Bool) → says g "UNH" ≡ t → if t head (if u trailer (if x (if e last other) other)) ≡ head → g ≡ text "UNH"
+head-by g true u x e p q = same-eq g (text "UNH") p
+head-by g false true x e p q = absurd (let z : _≡_ {A = ℕ} 0 1 = cc in omega arith)
+head-by g false false true true p q = absurd (let z : _≡_ {A = ℕ} 0 1 = cc in omega arith)
+head-by g false false true false p q = absurd (let z : _≡_ {A = ℕ} 0 1 = cc in omega arith)
+head-by g false false false e p q = absurd (let z : _≡_ {A = ℕ} 0 1 = cc in omega arith)
+
+pub head-tag : (g : List ℕ) (e : Bool) → kindBy g e ≡ head → g ≡ text "UNH"
+head-tag g e q = head-by g (says g "UNH") (says g "UNT") (says g "UNZ") e refl q

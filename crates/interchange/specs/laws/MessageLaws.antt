@@ -9,9 +9,8 @@ use Rattle.segments.specs.Sync.{shift}
 use Rattle.segments.specs.laws.ClearLaws.{passed}
 use Rattle.parts.specs.Parts.{Tok, elements}
 use Rattle.parts.specs.Trimmed.{Values, trimmed, valuesIn, valuesFrom}
-use Rattle.interchange.specs.Messages.{endsAt, extentOf}
+use Rattle.interchange.specs.Messages.{endsAt, bytesOf, extentOf}
 use Rattle.interchange.specs.laws.FindLaws.{extent-starts}
-use Rattle.interchange.specs.Damage.{bytesOf}
 use Rattle.interchange.specs.laws.WalkLaws.{Placed}
 use Rattle.interchange.specs.laws.OwnLaws.{members, past-more, message-holds, Own, none, cut-off, also, own-list, own-tokens}
 

@@ -1,10 +1,11 @@
 -- The last segment is a finished UNZ exactly if it is one of those after a terminator with no release just before it. Assumes nothing.
 use Prim.Native.Nat.{ℕ, _+_, _-_, _<_}
 use mathlib.Core.Path.{_≡_, refl, sym, _∙_, ap}
-use mathlib.Core.List.{List, [], _++_}
+use mathlib.Core.List.{List, [], _∷_, _++_}
 use mathlib.Core.Bool.{Bool, false}
 use lib.ListN.{length, getD, drop}
 use Rattle.service.specs.declared.Service.{Service}
+use Rattle.service.specs.Tests.{lastOf}
 use Rattle.segments.specs.declared.Segment.{Segment}
 use Rattle.segments.specs.declared.Segment.the-variants as segment
 use Rattle.segments.specs.forms.Bytes.{pastBreaks}
@@ -13,8 +14,13 @@ use Rattle.segments.specs.SegmentList.{Piece, finished, unfinished, segmentsFro
 use Rattle.segments.specs.laws.SegmentsLaws.{something}
 use Rattle.segments.specs.laws.ListLaws.{list-finished, list-unfinished}
 use Rattle.segments.specs.laws.SplitLaws.{segments-split}
-use Rattle.interchange.specs.Envelope.{lastUnz, ended}
-use Rattle.interchange.specs.laws.LastLaws.{last-append}
+use Rattle.interchange.specs.Envelope.{isUnz, lastUnz, ended}
+
+-- the last segment of segments one after the other
+pub last-append : (v : Service) (s : List ℕ) (b : Bool) (l : List Piece) (p : Piece) (r : List Piece) → lastUnz v s b (l ++ (p ∷ r)) ≡ lastUnz v s false (p ∷ r)
+unfolding lastOf
+last-append v s b [] p r = refl
+last-append v s b (q ∷ l) p r = last-append v s (isUnz v s q) l p r
 
 module _ (v : Service) (s : List ℕ) where
   -- segments from a byte on, with others before them

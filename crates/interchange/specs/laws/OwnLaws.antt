@@ -24,9 +24,8 @@ use Rattle.segments.specs.laws.ListLaws.{list-finished, list-unfinished, list-n
 use Rattle.parts.specs.Parts.{Tok, lex, valueOf}
 use Rattle.parts.specs.laws.PartLaws.{tokens-in-part}
 use Rattle.values.specs.Text.{text, sameList, says}
-use Rattle.interchange.specs.Messages.{tagAt, Kind, head, trailer, last, other, cut, kindOf, Extent, endsAt, isClosed, extentBy, extentOf, closedAt, endsClosed}
+use Rattle.interchange.specs.Messages.{tagAt, Kind, head, trailer, last, other, cut, kindOf, Extent, endsAt, isClosed, bytesOf, extentBy, extentOf, closedAt, endsClosed}
 use Rattle.interchange.specs.laws.FindLaws.{extent-starts}
-use Rattle.interchange.specs.Damage.{bytesOf}
 use Rattle.interchange.specs.laws.WalkLaws.{Placed, end, at}
 
 -- the segments of a message after its UNH, among those that follow it

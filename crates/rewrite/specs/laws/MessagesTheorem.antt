@@ -13,12 +13,11 @@ use Rattle.segments.specs.SegmentList.{Piece, finished, gap, pieces, segmentsAf
 use Rattle.parts.specs.Trimmed.{Values, valuesAt, valuesIn}
 use Rattle.values.specs.Text.{text}
 use Rattle.interchange.specs.declared.Opening.the-variants.{Opens}
-use Rattle.interchange.specs.Messages.{tagAt, Kind, head, trailer, last, other, cut, kindOf, Extent, isClosed, extentBy, extentOf, messagesBy, messagesOf}
+use Rattle.interchange.specs.Messages.{tagAt, Kind, head, trailer, last, other, cut, kindOf, Extent, isClosed, bytesOf, extentBy, extentOf, messagesBy, messagesOf}
 use Rattle.interchange.specs.Envelope.{bodyOf}
 use Rattle.interchange.specs.forms.Answers.{openingOf}
-use Rattle.interchange.specs.Damage.{bytesOf}
 use Rattle.interchange.specs.laws.WalkLaws.{Placed, end, at}
-use Rattle.interchange.specs.laws.TargetLaws.{head-tag}
+use Rattle.interchange.specs.laws.KindLaws.{head-tag}
 use Rattle.interchange.specs.laws.OwnLaws.{membersBy, members, message-finished, message-closed}
 use Rattle.interchange.specs.laws.WalkTheorems.{header, body-is}
 use Rattle.interchange.specs.Alike.{Alike, none, both, Pair, Pairs, also}

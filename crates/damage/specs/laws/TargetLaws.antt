@@ -10,24 +10,15 @@ use Rattle.service.specs.Tests.{if, isEmpty, lastOf}
 use Rattle.segments.specs.SegmentList.{Piece, finished, unfinished, allFinished}
 use Rattle.values.specs.Text.{text, sameList, says}
 use Rattle.values.specs.laws.TextLaws.{same-eq}
 use Rattle.interchange.specs.Messages.{tagAt, startOf, Kind, head, trailer, last, other, cut, kindBy, kindOf, Extent, closed, startsAt, extentBy, extentOf, messagesBy, messagesOf}
 use Rattle.interchange.specs.laws.FindLaws.{extent-starts}
+use Rattle.interchange.specs.laws.KindLaws.{head-tag}
 use Rattle.interchange.specs.laws.CloseLaws.{Tidy, nil, one, more}
-use Rattle.interchange.specs.Damage.{lastClosed, Before, here, later}
-use Rattle.interchange.specs.laws.DamageLaws.{beginning}
-use Rattle.interchange.specs.laws.BeforeLaws.{stands}
+use Rattle.damage.specs.Damage.{lastClosed, Before, here, later}
+use Rattle.damage.specs.laws.DamageLaws.{beginning}
+use Rattle.damage.specs.laws.BeforeLaws.{stands}
 
 -- ---- a kind says the tag
-head-by : (g : List ℕ) (t u x e : Bool) → says g "UNH" ≡ t → if t head (if u trailer (if x (if e last other) other)) ≡ head → g ≡ text "UNH"
-head-by g true u x e p q = same-eq g (text "UNH") p
-head-by g false true x e p q = absurd (let z : _≡_ {A = ℕ} 0 1 = cc in omega arith)
-head-by g false false true true p q = absurd (let z : _≡_ {A = ℕ} 0 1 = cc in omega arith)
-head-by g false false true false p q = absurd (let z : _≡_ {A = ℕ} 0 1 = cc in omega arith)
-head-by g false false false e p q = absurd (let z : _≡_ {A = ℕ} 0 1 = cc in omega arith)
-
-pub head-tag : (g : List ℕ) (e : Bool) → kindBy g e ≡ head → g ≡ text "UNH"
-head-tag g e q = head-by g (says g "UNH") (says g "UNT") (says g "UNZ") e refl q
-
 trailer-by : (g : List ℕ) (t u x e : Bool) → says g "UNT" ≡ u → if t head (if u trailer (if x (if e last other) other)) ≡ trailer → g ≡ text "UNT"
 trailer-by g true u x e p q = absurd (let z : _≡_ {A = ℕ} 0 1 = cc in omega arith)
 trailer-by g false true x e p q = same-eq g (text "UNT") p

@@ -26,9 +26,9 @@ use Rattle.message.specs.Advices.{preAdvice, dateHolds, rule30, rule31}
 use Rattle.message.specs.Kinds.{chartFor, rulesFor}
 use Rattle.message.specs.Faults.{rank, tell, tellAll, least, leastOf}
 use Rattle.report.specs.Reported.{bareOf, rule10, isKind, headed, lines, asked, fits, early, Of}
-use Rattle.demands.specs.MessageCases.{joined}
-use Rattle.demands.specs.AdviceCases.{narrow, coming, referenced, plain, elsewhere, AdviceCases}
-use Rattle.demands.specs.laws.MessageCasesLaws.{holds, gives}
+use Rattle.cases.specs.MessageCases.{joined}
+use Rattle.cases.specs.AdviceCases.{narrow, coming, referenced, plain, elsewhere, AdviceCases}
+use Rattle.cases.specs.laws.MessageCasesLaws.{holds, gives}
 
 -- ---- with an RFF in SG11: the tags and their rows
 abbrev referenced-tags : List ℕ

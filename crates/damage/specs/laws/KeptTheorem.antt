@@ -15,15 +15,15 @@ use Rattle.segments.specs.laws.ResyncLaws.{gap-start, pieces-append, loose-befo
 use Rattle.segments.specs.laws.FitLaws.{fits-sound, fit-settles}
 use Rattle.segments.specs.laws.ClosedLaws.{segments-moved}
 use Rattle.segments.specs.laws.ClearLaws.{below}
-use Rattle.interchange.specs.Messages.{Extent, messagesOf}
+use Rattle.interchange.specs.Messages.{Extent, bytesOf, messagesOf}
 use Rattle.interchange.specs.Envelope.{lastUnz}
-use Rattle.interchange.specs.Damage.{lastClosed, bytesOf, Stretch, replaced, Within}
-use Rattle.interchange.specs.laws.DamageLaws.{moved, beginning, messages-append, messages-moved}
-use Rattle.interchange.specs.laws.BeforeLaws.{stands, Agree, agree-both, begins-same, agree}
-use Rattle.interchange.specs.laws.TargetLaws.{none-open}
-use Rattle.interchange.specs.laws.ShiftLaws.{bytes-one, Until, bytes-until, begins-until}
-use Rattle.interchange.specs.laws.PlaceLaws.{Begins, Resumes}
-use Rattle.interchange.specs.laws.LastLaws.{last-moved, last-behind}
+use Rattle.damage.specs.Damage.{lastClosed, Stretch, replaced, Within}
+use Rattle.damage.specs.laws.DamageLaws.{moved, beginning, messages-append, messages-moved}
+use Rattle.damage.specs.laws.BeforeLaws.{stands, Agree, agree-both, begins-same, agree}
+use Rattle.damage.specs.laws.TargetLaws.{none-open}
+use Rattle.damage.specs.laws.ShiftLaws.{bytes-one, Until, bytes-until, begins-until}
+use Rattle.damage.specs.laws.PlaceLaws.{Begins, Resumes}
+use Rattle.damage.specs.laws.LastLaws.{last-moved, last-behind}
 
 -- any bytes, a terminator, bytes u and a terminator
 abbrev closing : Service → List ℕ → List ℕ → List ℕ

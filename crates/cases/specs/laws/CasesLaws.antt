@@ -1,8 +1,8 @@
 -- The rows hold. Assumes nothing.
 use Rattle.values.specs.laws.CasesLaws as values
 use Rattle.rewrite.specs.laws.CasesLaws as rewrite
-use Rattle.demands.specs.laws.MessageCasesLaws.{nine, ten, eleven, thirteen}
-use Rattle.demands.specs.Cases.{Cases}
+use Rattle.cases.specs.laws.MessageCasesLaws.{nine, ten, eleven, thirteen}
+use Rattle.cases.specs.Cases.{Cases}
 
 pub cases : Cases
 cases = record {

@@ -22,8 +22,8 @@ use Rattle.segments.specs.laws.ListLaws.{list-nothing, list-finished, list-unfi
 use Rattle.parts.specs.Parts.{lex, valueOf}
 use Rattle.parts.specs.laws.PartLaws.{lex-part}
 use Rattle.values.specs.Text.{says}
 use Rattle.interchange.specs.Messages.{tagAt, head, trailer, last, other, Extent, extentBy, extentOf, messagesBy}
-use Rattle.interchange.specs.laws.DamageLaws.{beginning}
+use Rattle.damage.specs.laws.DamageLaws.{beginning}
 
 -- whether a message stands open after the segments l, where one stood open before them or not
 unfoldable pub stands : Service → List ℕ → Bool → List Piece → Bool

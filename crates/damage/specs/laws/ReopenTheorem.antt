@@ -24,15 +24,15 @@ use Rattle.parts.specs.Parts.{Tok, lex, valueOf, elements, valueAt}
 use Rattle.parts.specs.laws.PartLaws.{lex-part, value-short}
 use Rattle.values.specs.Numbers.{valueFrom}
 use Rattle.values.specs.Text.{text, says}
 use Rattle.interchange.specs.declared.Opening.the-variants.{Opens, Refused}
 use Rattle.interchange.specs.Messages.{tagAt}
 use Rattle.interchange.specs.Envelope.{isReference, isHeader, lastUnz, ended, firstAt, refusal, afterFirst, bodyOf}
 use Rattle.interchange.specs.forms.Answers.{openingOf}
 use Rattle.interchange.specs.laws.OpenedLaws.{opened, opens}
 use Rattle.interchange.specs.laws.OpenLaws.{headed-at, open-endless, open-fit}
 use Rattle.interchange.specs.laws.WalkTheorems.{header}
-use Rattle.interchange.specs.laws.BeforeLaws.{end-is}
 use Rattle.interchange.specs.laws.EndedLaws.{body-ended}
+use Rattle.damage.specs.laws.BeforeLaws.{end-is}
 
 -- ---- the first segment, where the text x holds it
 module _ (v : Service) (x y : List ℕ) (i t : ℕ) (h : i ≤ length x) (g : t < length x) where

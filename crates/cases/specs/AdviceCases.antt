@@ -4,7 +4,7 @@ use Prim.Native.String.{String}
 use mathlib.Core.List.{List, [], _∷_, _++_}
 use Rattle.kinds.specs.declared.Kind.the-variants.{Debmul}
 use Rattle.report.specs.Reported.{Room}
-use Rattle.demands.specs.MessageCases.{Holds, Gives, joined}
+use Rattle.cases.specs.MessageCases.{Holds, Gives, joined}
 
 -- lists that are just long enough: "14 asks no list" of totals
 abbrev pub narrow : Room

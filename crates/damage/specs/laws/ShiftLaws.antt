@@ -9,10 +9,9 @@ use Rattle.service.specs.declared.Service.{Service}
 use Rattle.segments.specs.SegmentList.{Piece, finished}
 use Rattle.segments.specs.laws.ClearLaws.{Below, nil, fin, unf}
 use Rattle.values.specs.Text.{text, sameList}
-use Rattle.interchange.specs.Messages.{tagAt, startOf, pastOf, Kind, head, trailer, last, other, cut, kindOf, Extent, closed, unclosed, startsAt, endsAt, extentBy, extentOf, messagesBy}
+use Rattle.interchange.specs.Messages.{tagAt, startOf, pastOf, Kind, head, trailer, last, other, cut, kindOf, Extent, closed, unclosed, startsAt, endsAt, bytesOf, extentBy, extentOf, messagesBy}
 use Rattle.interchange.specs.laws.FindLaws.{extent-starts}
-use Rattle.interchange.specs.Damage.{bytesOf}
-use Rattle.interchange.specs.laws.DamageLaws.{moved, beginning}
+use Rattle.damage.specs.laws.DamageLaws.{moved, beginning}
 
 -- ---- messages further on
 pub start-moved : (k : ℕ) (m : Extent) → startsAt (moved k m) ≡ k + startsAt m

@@ -37,7 +37,7 @@ use Rattle.report.specs.declared.Report.the-variants.{Accepted}
 use Rattle.report.specs.Reported.{bareOf, Room, roomOf, rule10, isKind, headed, lines, asked, fits, early, Of, Applies, countsOf, filled, Reported, accepted}
 use Rattle.report.specs.laws.ReportedLaws.{one-report}
 use Rattle.report.specs.laws.LateLaws.{late-none, late-lowest}
-use Rattle.demands.specs.MessageCases.{room, Holds, Gives, Totals, joined, exchange, unnamed, counted, Row9, Row10, Row11, Row13}
+use Rattle.cases.specs.MessageCases.{room, Holds, Gives, Totals, joined, exchange, unnamed, counted, Row9, Row10, Row11, Row13}
 
 -- ---- a message of a kind with these tags, whose rows are these
 module _ (k : Kind) (x : Room) (m ts ns : List ℕ) (o : Of k plainService m) (t : tagsOf plainService m ≡ ts) (p : run ts (only (chartFor k)) 0 ≡ placed) (r : rowsOf (tableOf k) ts ≡ ns)

@@ -11,16 +11,16 @@ use Rattle.service.specs.declared.Service.{Service}
 use Rattle.service.specs.Service.{Fits}
 use Rattle.service.specs.laws.FitLaws.{characters-fit}
 use Rattle.segments.specs.SegmentList.{Piece, segmentsAfter}
 use Rattle.interchange.specs.declared.Opening.the-variants.{Opens, Refused}
 use Rattle.interchange.specs.Messages.{Extent, closed, messagesOf}
 use Rattle.interchange.specs.Envelope.{refusal, bodyOf}
 use Rattle.interchange.specs.forms.Answers.{openingOf}
 use Rattle.interchange.specs.laws.OpenedLaws.{opened}
 use Rattle.interchange.specs.laws.WalkTheorems.{header}
-use Rattle.interchange.specs.Damage.{Before, Stretch, Mark, replaced, damaged, Within, Hits, Beside, Stays}
-use Rattle.interchange.specs.laws.PlaceLaws.{lies, lies-long, precedes}
-use Rattle.interchange.specs.laws.HitsTheorem.{found-all}
-use Rattle.interchange.specs.laws.ReopenTheorem.{body-after, unb-within, unz-ends, new-body, reopens, opens-or-4}
+use Rattle.damage.specs.Damage.{Before, Stretch, Mark, replaced, damaged, Within, Hits, Beside, Stays}
+use Rattle.damage.specs.laws.PlaceLaws.{lies, lies-long, precedes}
+use Rattle.damage.specs.laws.HitsTheorem.{found-all}
+use Rattle.damage.specs.laws.ReopenTheorem.{body-after, unb-within, unz-ends, new-body, reopens, opens-or-4}
 
 -- Take an interchange that opens and damage messages in it as `Hits` says, the whole staying within the limit. The result opens, and every whole message is found as before.
 pub damage : (s : List ℕ) (v : Service) (first : ℕ) → openingOf s ≡ Opens v first → (k : List Mark) → Hits v s true false (messagesOf v s (bodyOf v s first)) k

@@ -10,13 +10,9 @@ use Rattle.service.specs.Tests.{lastOf}
 use Rattle.segments.specs.SegmentList.{Piece, finished, unfinished}
 use Rattle.segments.specs.Sync.{shift}
 use Rattle.values.specs.Text.{says}
 use Rattle.interchange.specs.Envelope.{isUnz, lastUnz}
-use Rattle.interchange.specs.laws.DamageLaws.{tag-moved}
-
-pub last-append : (v : Service) (s : List ℕ) (b : Bool) (l : List Piece) (p : Piece) (r : List Piece) → lastUnz v s b (l ++ (p ∷ r)) ≡ lastUnz v s false (p ∷ r)
-unfolding lastOf
-last-append v s b [] p r = refl
-last-append v s b (q ∷ l) p r = last-append v s (isUnz v s q) l p r
+use Rattle.interchange.specs.laws.NearLaws.{last-append}
+use Rattle.damage.specs.laws.DamageLaws.{tag-moved}
 
 unz-moved : (v : Service) (x r : List ℕ) (p : Piece) → isUnz v (x ++ r) (shift (length x) p) ≡ isUnz v r p
 unz-moved v x r (finished a t) = ap (λ (g : List ℕ). says g "UNZ") (tag-moved v x r a)

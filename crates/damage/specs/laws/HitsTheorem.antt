@@ -12,14 +12,14 @@ use Rattle.service.specs.declared.Service.{Service}
 use Rattle.service.specs.Service.{Fits}
 use Rattle.service.specs.Tests.{lastOf}
 use Rattle.segments.specs.SegmentList.{segmentsAfter}
-use Rattle.interchange.specs.Messages.{Extent, closed, unclosed, isClosed, messagesOf}
+use Rattle.interchange.specs.Messages.{Extent, closed, unclosed, isClosed, bytesOf, messagesOf}
 use Rattle.interchange.specs.Envelope.{lastUnz}
-use Rattle.interchange.specs.Damage.{lastClosed, bytesOf, Stretch, Mark, whole, next, hit, replaced, damaged, Before, Within, Hits, Beside, Stays}
-use Rattle.interchange.specs.Damage as damage
-use Rattle.interchange.specs.laws.DamageLaws.{moved}
-use Rattle.interchange.specs.laws.ShiftLaws.{start-moved, end-moved}
-use Rattle.interchange.specs.laws.PlaceLaws.{Begins, Resumes, UnzBehind, Lies, lies, lies-long, resumes-near, Beyond, beyond}
-use Rattle.interchange.specs.laws.KeptTheorem.{Renewed, renewed, messages-from, long-as}
+use Rattle.damage.specs.Damage.{lastClosed, Stretch, Mark, whole, next, hit, replaced, damaged, Before, Within, Hits, Beside, Stays}
+use Rattle.damage.specs.Damage as damage
+use Rattle.damage.specs.laws.DamageLaws.{moved}
+use Rattle.damage.specs.laws.ShiftLaws.{start-moved, end-moved}
+use Rattle.damage.specs.laws.PlaceLaws.{Begins, Resumes, UnzBehind, Lies, lies, lies-long, resumes-near, Beyond, beyond}
+use Rattle.damage.specs.laws.KeptTheorem.{Renewed, renewed, messages-from, long-as}
 
 -- ---- lists
 -- of a list in two parts that is another one mapped, the second part is mapped from the end of the other

@@ -12,13 +12,14 @@ use Rattle.service.specs.Tests.{lastOf}
 use Rattle.segments.specs.SegmentList.{Piece, finished, gap, segmentsAfter}
 use Rattle.segments.specs.laws.ClearLaws.{Clear, clear-on, passed, upto-start, from-start, pastAll, PassedAll, passed-all}
 use Rattle.values.specs.Text.{text, sameList, says}
 use Rattle.interchange.specs.Messages.{tagAt, Kind, head, trailer, last, other, cut, kindBy, kindOf, Extent, closed, extentOf, messagesBy, messagesOf}
 use Rattle.interchange.specs.Envelope.{lastUnz}
 use Rattle.interchange.specs.laws.CloseLaws.{Tidy, nil, one, more, tidy-pieces}
-use Rattle.interchange.specs.Damage.{Before}
-use Rattle.interchange.specs.laws.DamageLaws.{beginning}
-use Rattle.interchange.specs.laws.TargetLaws.{head-tag, split, ending, before-finished, before-mid, two}
-use Rattle.interchange.specs.laws.LastLaws.{last-append}
+use Rattle.interchange.specs.laws.KindLaws.{head-tag}
+use Rattle.interchange.specs.laws.NearLaws.{last-append}
+use Rattle.damage.specs.Damage.{Before}
+use Rattle.damage.specs.laws.DamageLaws.{beginning}
+use Rattle.damage.specs.laws.TargetLaws.{split, ending, before-finished, before-mid, two}
 
 -- a message begins at a among the segments from q on: the segments before its UNH, with the messages that begin in them, the UNH and those after it
 pub record Begins (v : Service) (s : List ℕ) (q : ℕ) (before : List Extent) (a : ℕ) : Type 0 where

@@ -7,15 +7,11 @@ use lib.ListN.{length, take, drop}
 use Rattle.service.specs.declared.Service.{Service}
 use Rattle.service.specs.Tests.{lastOf}
 use Rattle.segments.specs.SegmentList.{Piece, finished, segmentsAfter}
-use Rattle.interchange.specs.Messages.{Extent, closed, isClosed, startsAt, endsAt}
+use Rattle.interchange.specs.Messages.{Extent, closed, isClosed, startsAt, endsAt, bytesOf}
 
 -- whether the last of some messages is closed, or, of none, what is given
 abbrev pub lastClosed : Bool → List Extent → Bool
 lastClosed b l = lastOf b (map isClosed l)
-
--- the bytes of a message
-abbrev pub bytesOf : List ℕ → Extent → List ℕ
-bytesOf s m = take (endsAt m - startsAt m) (drop (startsAt m) s)
 
 -- ---- what is damaged
 -- "any stretch of that message", from one place up to but excluding another, and the "other bytes of whatever number" in its place

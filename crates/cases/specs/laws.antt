@@ -1,0 +1,3 @@
+pub mod AdviceCasesLaws
+pub mod CasesLaws
+pub mod MessageCasesLaws

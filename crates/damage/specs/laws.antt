@@ -1,0 +1,10 @@
+pub mod BeforeLaws
+pub mod DamageLaws
+pub mod DamageTheorem
+pub mod HitsTheorem
+pub mod KeptTheorem
+pub mod LastLaws
+pub mod PlaceLaws
+pub mod ReopenTheorem
+pub mod ShiftLaws
+pub mod TargetLaws
