@@ -1,6 +1,7 @@
 /* A small sending program over Twineherald.
  *
  *   host FILE            says in words what the check finds in one file of payment messages or debit advices
+ *   host --once FILE     the same by one call for all messages, whose places it finds itself; no totals are told
  *   host --rewrite FILE  writes the file in plain service characters to standard output
  *
  * Exit status: 0 if everything was accepted, 1 if anything was refused, 2 if the program was called
@@ -32,8 +33,10 @@ typedef struct {
     uint64_t *totals;
 } lists;
 
-/* The two service characters that are needed to find the segments of a message. */
+/* The service characters that are needed to find segments and their tags. */
 typedef struct {
+    uint8_t component;
+    uint8_t element;
     int has_release;
     uint8_t release;
     uint8_t terminator;
@@ -206,9 +209,11 @@ static void print_count(uint32_t count, const char *what)
 
 static marks marks_of(slice file)
 {
-    marks m = {1, '?', '\''};
+    marks m = {':', '+', 1, '?', '\''};
 
     if (file.length >= 9 && memcmp(file.first, "UNA", 3) == 0) {
+        m.component = file.first[3];
+        m.element = file.first[4];
         m.has_release = file.first[6] != ' ';
         m.release = file.first[6];
         m.terminator = file.first[8];
@@ -293,8 +298,16 @@ static void print_accepted(const twineherald_report *report, const lists *l)
                k + 1, l->totals[k] / 1000, l->totals[k] % 1000);
 }
 
-static void print_refused(const twineherald_step *step, slice message, marks m)
+static void print_place(uint32_t place, const twineherald_step *step)
 {
+    printf("Message %" PRIu32 ", at byte offset %" PRIu32 " of the file, %" PRIu32 " bytes long\n",
+           place, step->start, step->end - step->start);
+}
+
+static void print_refused(const twineherald_step *step, slice file, marks m)
+{
+    slice message = {file.first + step->start, step->end - step->start};
+
     printf("  ");
     print_refusal(step->report.number);
     if (step->report.segment == 0)
@@ -332,12 +345,11 @@ static uint32_t report_messages(slice file, const lists *l)
             }
             return refusals;
         }
-        printf("Message %" PRIu32 ", at byte offset %" PRIu32 " of the file, %" PRIu32 " bytes long\n",
-               place, step.start, step.end - step.start);
+        print_place(place, &step);
         if (step.report.number == TWINEHERALD_ACCEPTED) {
             print_accepted(&step.report, l);
         } else {
-            print_refused(&step, (slice){file.first + step.start, step.end - step.start}, m);
+            print_refused(&step, file, m);
             refusals++;
         }
         at = step.end;
@@ -363,16 +375,24 @@ static uint32_t report_closing(slice file)
     return 1;
 }
 
-static int report(slice file)
+/* Whether the file opens; tells it if not. */
+static int opens(slice file)
 {
-    lists l;
     uint32_t number = twineherald_open(file.first, file.length);
 
     if (number != TWINEHERALD_ACCEPTED) {
         printf("The whole file is ");
         print_refusal(number);
-        return REFUSED;
     }
+    return number == TWINEHERALD_ACCEPTED;
+}
+
+static int report(slice file)
+{
+    lists l;
+
+    if (!opens(file))
+        return REFUSED;
     if (!make_lists(&l)) {
         fprintf(stderr, "host: not enough memory\n");
         return TROUBLE;
@@ -381,6 +401,80 @@ static int report(slice file)
     refusals += report_closing(file);
     free_lists(&l);
     return refusals == 0 ? ALL_ACCEPTED : REFUSED;
+}
+
+/* ---- The report by one call ---- */
+
+/* Whether the tag of the segment at position at is UNH; a released letter is that letter. */
+static int is_unh(slice file, size_t at, marks m)
+{
+    for (const char *letter = "UNH"; *letter != '\0'; letter++) {
+        if (at < file.length && m.has_release && file.first[at] == m.release)
+            at++;
+        if (at >= file.length || file.first[at] != (uint8_t)*letter)
+            return 0;
+        at++;
+    }
+    return at < file.length
+        && (file.first[at] == m.component || file.first[at] == m.element || file.first[at] == m.terminator);
+}
+
+/* The positions of all UNH, of which each begins a message, into positions unless that is NULL; gives their number. */
+static size_t find_messages(slice file, size_t *positions)
+{
+    marks m = marks_of(file);
+    size_t count = 0;
+
+    for (size_t at = 0; at < file.length; at = after_breaks(file, segment_end(file, at, m))) {
+        if (!is_unh(file, at, m))
+            continue;
+        if (positions != NULL)
+            positions[count] = at;
+        count++;
+    }
+    return count;
+}
+
+/* Tells every message by its answer; gives the number of refusals. */
+static uint32_t report_answers(slice file, const twineherald_step *answers, size_t count)
+{
+    marks m = marks_of(file);
+    uint32_t refusals = 0;
+
+    for (size_t k = 0; k < count; k++) {
+        print_place((uint32_t)k + 1, &answers[k]);
+        if (answers[k].report.number != TWINEHERALD_ACCEPTED) {
+            print_refused(&answers[k], file, m);
+            refusals++;
+            continue;
+        }
+        printf("  accepted: ");
+        print_count(answers[k].report.segments, "segment");
+        printf(", %" PRIu32 " LIN, %" PRIu32 " SEQ\n", answers[k].report.orders, answers[k].report.payments);
+    }
+    return refusals;
+}
+
+static int report_once(slice file)
+{
+    if (!opens(file))
+        return REFUSED;
+    size_t count = find_messages(file, NULL);
+    size_t *positions = malloc((count + 1) * sizeof *positions);
+    twineherald_step *answers = malloc((count + 1) * sizeof *answers);
+    int status = TROUBLE;
+    if (positions == NULL || answers == NULL) {
+        fprintf(stderr, "host: not enough memory\n");
+    } else {
+        find_messages(file, positions);
+        /* never refused: there are as many answers as positions */
+        twineherald_walk_each(file.first, file.length, positions, count, answers, count);
+        uint32_t refusals = report_answers(file, answers, count) + report_closing(file);
+        status = refusals == 0 ? ALL_ACCEPTED : REFUSED;
+    }
+    free(positions);
+    free(answers);
+    return status;
 }
 
 /* ---- Rewriting ---- */
@@ -422,12 +516,12 @@ static int run(const char *path, int (*task)(slice file))
 
 int main(int argc, char **argv)
 {
-    int rewriting = argc > 1 && strcmp(argv[1], "--rewrite") == 0;
-
-    if (argc == 2 && !rewriting)
+    if (argc == 2 && strncmp(argv[1], "--", 2) != 0)
         return run(argv[1], report);
-    if (argc == 3 && rewriting)
+    if (argc == 3 && strcmp(argv[1], "--once") == 0)
+        return run(argv[2], report_once);
+    if (argc == 3 && strcmp(argv[1], "--rewrite") == 0)
         return run(argv[2], rewrite);
-    fprintf(stderr, "usage: host FILE\n       host --rewrite FILE\n");
+    fprintf(stderr, "usage: host FILE\n       host --once FILE\n       host --rewrite FILE\n");
     return TROUBLE;
 }

@@ -11,8 +11,8 @@
  *
  *  - a pointer is valid for as many bytes or numbers as the length beside it says, for the time of
  *    the call; with a length of 0 it is not read and may be anything, NULL too;
- *  - a list of 16-, 32- or 64-bit numbers is aligned for its numbers, as any C array of them is;
- *  - what is lent for output overlaps neither the bytes lent for reading nor another output.
+ *  - a list of numbers or of steps is aligned for them, as any C array of them is;
+ *  - what is lent for output overlaps neither what is lent for reading nor another output.
  *
  * Nothing is kept after a call returns. There is no state, no allocation and no input or output, so
  * calls may be made from several threads at once.
@@ -48,7 +48,8 @@ enum {
     TWINEHERALD_UNCLOSED = 11,       /* the message has no UNT */
     TWINEHERALD_TYPE = 12,           /* UNH: reference not 1 to 14 bytes, or not PAYMUL or DEBMUL D 96A UN */
     TWINEHERALD_SEGMENTS = 13,       /* more than 9,999 segments */
-    TWINEHERALD_LISTS = 14,          /* a lent list is too short; an advice needs no list of totals */
+    TWINEHERALD_LISTS = 14,          /* a lent list is too short; an advice needs no list of totals; walking
+                                      * from several positions: fewer answers than positions */
     TWINEHERALD_PLACEMENT = 16,      /* here the segments leave the chart */
     TWINEHERALD_UNT_COUNT = 17,      /* UNT's count is not the number of segments */
     TWINEHERALD_UNT_REFERENCE = 18,  /* UNT's reference is not UNH's */
@@ -122,6 +123,15 @@ twineherald_step twineherald_walk(const uint8_t *bytes, size_t length, size_t at
                                   uint16_t *rows, size_t rows_length,
                                   uint32_t *starts, size_t starts_length,
                                   uint64_t *totals, size_t totals_length);
+
+/* Several messages at once: answers[i] is the step that twineherald_walk gives at positions[i] with lists as
+ * long as the message needs, so 14 is in no answer. A position may be named twice, in any order, and may be
+ * any number at all: past the end of the bytes the answer is 8, as from the walk. Gives 0 when every position
+ * is answered, also when there is none, or 14 if there are fewer answers than positions: then no answer is
+ * written, whatever the bytes are. Answers past the positions keep their content. */
+uint32_t twineherald_walk_each(const uint8_t *bytes, size_t length,
+                               const size_t *positions, size_t positions_length,
+                               twineherald_step *answers, size_t answers_length);
 
 /* Checks the bytes of one message, as the walk does with what it found. head is the interchange that
  * the message comes from, or its first nine bytes: the service characters are read there (refusal 2 if

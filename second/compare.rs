@@ -1,6 +1,7 @@
 //! The comparison: many inputs, many calls on each, all answers against this program's own.
 
 use crate::driver::{self, escape, Answers, Call, Case, Difference, Head, Part, Tally};
+use crate::each;
 use crate::hits::{Hits, Mark, Walked};
 use crate::inputs::{self, Input};
 use crate::interchange::{check, close, open, survey, walk, Step};
@@ -88,7 +89,9 @@ fn plan(random: &mut Random, input: &Input, every_position: bool) -> Case {
     // the walk, from 0 to the end; each message also by itself
     let mut at = 0u64;
     let mut found = 0;
+    let mut stops = Vec::new();
     loop {
+        stops.push(at);
         let step = walk(bytes, at, AMPLE);
         let Step::Found(extent, _) = step else {
             calls.push((place(random), Call::Walk { at, lists: Lists { rows: 3, starts: 3, totals: 1 } }));
@@ -123,6 +126,11 @@ fn plan(random: &mut Random, input: &Input, every_position: bool) -> Case {
         if found >= 40 && !small {
             break;
         }
+    }
+
+    // several positions at once
+    for (positions, room) in each::calls(random, bytes, &stops, every_position) {
+        calls.push((place(random), Call::WalkEach { positions, room }));
     }
 
     // other positions
@@ -320,8 +328,15 @@ struct Run<'a> {
 
 impl Run<'_> {
     fn add(&mut self, case: Case) {
-        let calls: usize =
-            case.calls.iter().map(|(_, c)| if let Call::WalkAll { from, to, .. } = c { to - from } else { 1 }).sum();
+        let calls: usize = case
+            .calls
+            .iter()
+            .map(|(_, c)| match c {
+                Call::WalkAll { from, to, .. } => to - from,
+                Call::WalkEach { positions, .. } => positions.len().max(1),
+                _ => 1,
+            })
+            .sum();
         self.batch_calls += calls;
         self.batch_bytes += case.bytes.len() * case.calls.len().min(20);
         self.batch.push(case);
@@ -407,6 +422,9 @@ impl Run<'_> {
             let mut calls = vec![(0, Call::Open), (0, Call::Close)];
             if bytes.len() <= 400 {
                 calls.push((0, Call::WalkAll { from: 0, to: bytes.len() + 2, lists: ample }));
+                let positions: Vec<u64> = (0..=bytes.len() as u64 + 2).collect();
+                let room = positions.len();
+                calls.push((0, Call::WalkEach { positions, room }));
             } else {
                 let (mut at, mut count) = (0, 0);
                 while let Step::Found(extent, _) = walk(bytes, at, ample) {
@@ -711,9 +729,13 @@ fn summary(run: &Run) -> bool {
     }
     // without the inputs at the limits some numbers cannot be met
     let all_met = missing.is_empty();
+    let each_met = !called || tally.each.summary();
+    if !each_met {
+        println!("several positions: some count is 0");
+    }
     let hits_met = run.options.hits == 0 || run.hits.summary(called);
     if !hits_met {
         println!("messages hit: some count is 0, or the library's is another");
     }
-    run.differences == 0 && hits_met && (!called || all_met || !run.options.limits)
+    run.differences == 0 && each_met && hits_met && (!called || all_met || !run.options.limits)
 }

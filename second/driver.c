@@ -12,6 +12,7 @@
  *   c                            close
  *   w place(u8) at(u64) r s t    walk from at, with lists of r, s and t entries
  *   a place(u8) from to r s t    walk from every position from..to, both included
+ *   e place(u8) n m at(u64)..    walk from each of n positions in one call, with room for m answers
  *   k place(u8) whole(u8) [length bytes] from-inside(u8) [offset length | length bytes] r s t
  *                                check: head is the interchange (whole 1) or the bytes that follow; the
  *                                message is a part of the interchange, in place (1) or copied (2), or the
@@ -80,7 +81,7 @@ static uint8_t *lend(struct room room, size_t length, int place) {
     return place == 1 ? room.base : room.base + room.size - length;
 }
 
-static struct room bytes_room, head_room, message_room, out_room, rows_room, starts_room, totals_room;
+static struct room bytes_room, head_room, message_room, out_room, rows_room, starts_room, totals_room, positions_room, answers_room;
 
 /* Puts bytes where they can be read and not written. */
 static const uint8_t *lend_bytes(struct room room, const uint8_t *bytes, size_t length, int place) {
@@ -163,6 +164,7 @@ static uint16_t row_pattern(size_t i) { return (uint16_t)(0xA5C3u + 7u * i); }
 static uint32_t start_pattern(size_t i) { return (uint32_t)(0xFEED0000u + 13u * i); }
 static uint64_t total_pattern(size_t i) { return (uint64_t)0xC0FFEE0000000000u + 31u * (uint64_t)i; }
 static uint8_t byte_pattern(size_t i) { return (uint8_t)(0x5Au + 3u * i); }
+static uint32_t answer_pattern(size_t i) { return (uint32_t)(0xD1CE0000u + 19u * i); }
 
 static struct lists lend_lists(size_t r, size_t s, size_t t, int place) {
     struct lists lists;
@@ -221,6 +223,27 @@ static void walk(const uint8_t *bytes, size_t length, size_t at, struct lists li
     give_number(step.end);
     give_report(step.report);
     give_lists(lists);
+}
+
+/* The numbers of a step: an answer is these and nothing else. */
+enum { STEP = 9 };
+_Static_assert(sizeof(twineherald_step) == STEP * sizeof(uint32_t), "a step is its numbers");
+
+static void walk_each(const uint8_t *bytes, size_t length) {
+    int place = (int)take_number(1);
+    size_t count = (size_t)take_number(4), room = (size_t)take_number(4);
+    const uint8_t *at = take(count * 8);
+    const size_t *positions = (const size_t *)(const void *)lend_bytes(positions_room, at, count * 8, place);
+    uint32_t *answers = (uint32_t *)(void *)lend(answers_room, room * STEP * 4, place);
+    for (size_t i = 0; i < room * STEP; i++) answers[i] = answer_pattern(i);
+    fill_beside(answers_room, room * STEP * 4, place);
+    uint32_t number = twineherald_walk_each(bytes, length, positions, count, (twineherald_step *)(void *)answers, room);
+    int changed = 0;
+    for (size_t i = 0; i < room * STEP; i++) changed |= answers[i] != answer_pattern(i);
+    give_letter('e');
+    give_number(number);
+    give_letter((char)(changed + 2 * beside_changed(answers_room, room * STEP * 4, place)));
+    if (changed) give(answers, room * STEP * 4);
 }
 
 static void check(const uint8_t *bytes, size_t length) {
@@ -303,6 +326,8 @@ int main(void) {
     rows_room = new_room(1 << 20);
     starts_room = new_room(1 << 20);
     totals_room = new_room(1 << 20);
+    positions_room = new_room(1 << 20);
+    answers_room = new_room(2 << 20);
     read_requests();
 
     const uint8_t *bytes = lend_bytes(bytes_room, NULL, 0, 0);
@@ -334,6 +359,8 @@ int main(void) {
             size_t from = (size_t)take_number(4), to = (size_t)take_number(4);
             size_t r = (size_t)take_number(4), s = (size_t)take_number(4), t = (size_t)take_number(4);
             for (size_t at = from; at <= to; at++) walk(bytes, length, at, lend_lists(r, s, t, place));
+        } else if (letter == 'e') {
+            walk_each(bytes, length);
         } else if (letter == 'k') {
             check(bytes, length);
         } else if (letter == 'r') {

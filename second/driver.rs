@@ -1,5 +1,6 @@
 //! Talking to the C driver: requests, answers, and what the answers must be.
 
+use crate::each;
 use crate::interchange::{self, Extent, Step};
 use crate::message::{Lists, Report};
 use crate::rewrite;
@@ -35,6 +36,11 @@ pub enum Call {
         from: usize,
         to: usize,
         lists: Lists,
+    },
+    /// From each of these positions in one call, with room for so many answers.
+    WalkEach {
+        positions: Vec<u64>,
+        room: usize,
     },
     Check {
         head: Head,
@@ -85,6 +91,12 @@ impl Case {
                     number(out, *from);
                     number(out, *to);
                     lengths(out, lists);
+                }
+                Call::WalkEach { positions, room } => {
+                    out.extend([b'e', *place]);
+                    number(out, positions.len());
+                    number(out, *room);
+                    positions.iter().for_each(|at| out.extend(at.to_le_bytes()));
                 }
                 Call::Check { head, part, lists } => {
                     out.extend([b'k', *place]);
@@ -161,6 +173,10 @@ fn total_pattern(i: usize) -> u64 {
 fn byte_pattern(i: usize) -> u8 {
     (0x5A + 3 * i) as u8
 }
+/// The nine numbers of the answer at a place.
+fn answer_pattern(place: usize) -> Vec<u32> {
+    (9 * place..9 * place + 9).map(|i| (0xD1CE_0000u64 + 19 * i as u64) as u32).collect()
+}
 
 /// The answers, read one after the other; None once they have run out.
 pub struct Answers<'a> {
@@ -217,6 +233,29 @@ impl<'a> Answers<'a> {
             }
         };
         Some((found, rest))
+    }
+
+    /// The number that a call for several positions gives, and what is wrong with the answers, in words of which the
+    /// first tells what must be there.
+    fn each(&mut self, room: usize, expected: &[Vec<u32>]) -> Option<(u32, Vec<(String, String)>)> {
+        self.expect_letter(b'e')?;
+        let number = self.numbers(1)?[0];
+        let flag = self.letter()?;
+        let mut wrong = Vec::new();
+        if flag & 2 != 0 {
+            wrong.push(("nothing beside".to_string(), "bytes beside the answers were written".to_string()));
+        }
+        for i in 0..if flag & 1 != 0 { room } else { 0 } {
+            let (must, is) = (expected.get(i).cloned().unwrap_or_else(|| answer_pattern(i)), self.numbers(9)?);
+            if is != must && wrong.len() < 4 {
+                let kept = if i < expected.len() { "" } else { " (as before)" };
+                wrong.push((format!("[{i}] {}{kept}", show_numbers(&must, &STEP)), show_numbers(&is, &STEP)));
+            }
+        }
+        if flag & 1 == 0 && !expected.is_empty() {
+            wrong.push(("answers".to_string(), "no answer was written".to_string()));
+        }
+        Some((number, wrong))
     }
 
     /// The numbers of an answer with lists, and what is wrong with the lists.
@@ -294,6 +333,8 @@ pub struct Tally {
     pub closed: u64,
     pub rewritten: u64,
     pub calls: u64,
+    /// Of the calls for several positions.
+    pub each: each::Counts,
 }
 
 impl Tally {
@@ -395,6 +436,24 @@ pub fn compare(case: &Case, answers: &mut Answers, tally: &mut Tally, difference
                             format!("{} {}", show_numbers(&is, &STEP), wrong.join("; ")),
                         );
                     }
+                }
+            }
+            Call::WalkEach { positions, room } => {
+                let result = interchange::walk_each(bytes, positions, *room);
+                let must = result.as_ref().err().copied().unwrap_or(0);
+                let steps = result.unwrap_or_default();
+                let expected: Vec<Vec<u32>> = steps.iter().map(|step| step_numbers(step).0).collect();
+                let (is, wrong) = answers.each(*room, &expected)?;
+                tally.calls += 1;
+                tally.each.call(positions, *room);
+                tally.each.answers(bytes, if must == 0 { positions } else { &[] }, &steps);
+                if is != must || !wrong.is_empty() {
+                    let (right, found): (Vec<String>, Vec<String>) = wrong.into_iter().unzip();
+                    differ(
+                        format!("walk from each of {positions:?}, room for {room}, place {place}"),
+                        format!("{must} {}", right.join("; ")),
+                        format!("{is} {}", found.join("; ")),
+                    );
                 }
             }
             Call::Check { head, part, lists } => {

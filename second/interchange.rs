@@ -144,6 +144,17 @@ pub fn walk(bytes: &[u8], at: u64, lists: Lists) -> Step {
     }
 }
 
+/// "As if they were long enough".
+pub const LONG_ENOUGH: Lists = Lists { rows: usize::MAX, starts: usize::MAX, totals: usize::MAX };
+
+/// The step from each of these positions, in the order listed; 14 where there is room for fewer answers.
+pub fn walk_each(bytes: &[u8], positions: &[u64], room: usize) -> Result<Vec<Step>, u32> {
+    if room < positions.len() {
+        return Err(14);
+    }
+    Ok(positions.iter().map(|at| walk(bytes, *at, LONG_ENOUGH)).collect())
+}
+
 /// Checks one message's bytes with the service characters of `head`.
 pub fn check(head: &[u8], bytes: &[u8], lists: Lists) -> Report {
     match service(head) {

@@ -6,6 +6,7 @@ mod compare;
 mod damage;
 mod damage_advice;
 mod driver;
+mod each;
 mod hits;
 mod inputs;
 mod interchange;

@@ -2,7 +2,7 @@
 //! of debit advices are in `selftest_advice.rs`, those of messages hit in `selftest_hits.rs`.
 
 use crate::chart;
-use crate::interchange::{check, close, open, walk, Step};
+use crate::interchange::{check, close, open, walk, walk_each, Step};
 use crate::kinds::{Kind, KINDS};
 use crate::message::Lists;
 use crate::random::Random;
@@ -155,6 +155,26 @@ pub fn run() -> bool {
         walk(b"UNH'A", 0, AMPLE) == Step::Refused(4) && walk(b"A", 0, AMPLE) == Step::Refused(4),
     );
     t.hold("walk, unfinished after", matches!(walk(b"UNH'UNT'A", 0, AMPLE), Step::Found(..)));
+    // W-203: the steps at 12..20, at 20..26, none left, and past the end
+    let several = walk_each(steps, &[26, 0, u64::MAX, 20, 13, 0, (1 << 32) + 20], 9).unwrap();
+    let places = several.iter().map(|step| match step {
+        Step::Found(extent, report) => Ok((extent.start, extent.end, report.fault)),
+        Step::NoneLeft => Err(0),
+        Step::Refused(number) => Err(*number),
+    });
+    let (one, two) = (Ok((12, 20, (11, 1, 0))), Ok((20, 26, (11, 1, 0))));
+    t.hold("several positions", places.eq([Err(0), one, Err(8), two, two, one, Err(8)]));
+    let long = message(&order(1, "9:1:EUR", "", named, &payment(1, "9:1:EUR")));
+    t.hold("a list of totals needed", check(b"", &long, Lists { totals: 0, ..AMPLE }).fault.0 == 14);
+    let counts = match &walk_each(&long, &[0], 1).unwrap()[..] {
+        [Step::Found(_, r)] if r.fault.0 == 0 => Some((r.segments, r.orders, r.payments)),
+        _ => None,
+    };
+    t.hold("several positions, as if the lists were long enough", counts == Some((14, 1, 1)));
+    t.hold("several positions, none", walk_each(b"UNA", &[], 0) == Ok(vec![]));
+    t.hold("several positions, less room", walk_each(b"UNA", &[0, 1], 1) == Err(14));
+    t.hold("several positions, unfit", walk_each(b"UNA", &[9, 1], 2) == Ok(vec![Step::Refused(2); 2]));
+
     t.hold("rewriting a CR", rewrite(b"UNB+:3++++R'?\rA+\r'UNZ'", 99) == Ok(b"UNB+:3++++R'?\rA+\r'UNZ'".to_vec()));
     t.hold("rewriting into less", rewrite(b"UNB+:3++++R'UNZ'", 15) == Err(9));
 

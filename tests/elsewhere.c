@@ -183,6 +183,23 @@ twineherald_step twineherald_walk(const uint8_t *bytes, size_t length, size_t at
     return step;
 }
 
+uint32_t twineherald_walk_each(const uint8_t *bytes, size_t length, const size_t *positions, size_t positions_length, twineherald_step *answers,
+                               size_t answers_length)
+{
+    lent(answers, answers_length * sizeof *answers);
+    call c = begin(bytes, length);
+    putc('e', c.ask), putc(0, c.ask);
+    put_number(c.ask, positions_length, NUMBER), put_number(c.ask, answers_length, NUMBER);
+    for (size_t i = 0; i < positions_length; i++)
+        put_number(c.ask, positions[i], 8);
+    ask(c, 'e');
+    uint32_t number = (uint32_t)take_number(c, NUMBER);
+    if (changed(c))
+        take_list(c, answers, sizeof *answers, answers_length, positions_length);
+    end(c);
+    return number;
+}
+
 twineherald_closing twineherald_close(const uint8_t *bytes, size_t length)
 {
     call c = begin(bytes, length);

@@ -8,6 +8,8 @@ host_wants() { # SAMPLE without ending -> expected status
     if grep -qE ' NO |^OPEN' "$1.txt"; then echo 1; return; fi
     if grep -qE '^END .* 0$' "$1.txt"; then echo 0; else echo 1; fi
 }
+# The same told by one call for all messages: no kind and no totals, and LIN and SEQ counted.
+at_once() { sed '/^    order [0-9]*: /d; s/^  accepted: debit advice, /  accepted: /; s/^\(  accepted: [0-9]* segments*, [0-9]*\) [a-z]*, \([0-9]*\) [a-z]*$/\1 LIN, \2 SEQ/'; }
 for edi in samples/*.edi; do
     name=${edi%.edi}
     $host "$edi" >"$log/host" 2>"$log/err"
@@ -24,6 +26,14 @@ for edi in samples/*.edi; do
         ;;
     esac
     if [ "$ok" = 1 ] && [ ! -s "$log/err" ]; then good "host $edi, $how"; else bad "host $edi, $how (status $got)"; cat "$log/host" "$log/err"; fi
+    $host --once "$edi" >"$log/once" 2>"$log/err"
+    once=$?
+    if [ "$once" = "$got" ] && at_once <"$log/host" | cmp -s - "$log/once" && [ ! -s "$log/err" ]; then
+        good "host --once $edi, $how"
+    else
+        bad "host --once $edi, $how (status $once)"
+        cat "$log/once" "$log/err"
+    fi
 done
 # Of an order and an advice in one file: the totals of the order's two LIN are told, and none of the advice.
 $host samples/order_and_advice.edi >"$log/host" 2>"$log/err"

@@ -30,6 +30,7 @@ use Rattle.demands.specs.Predecessor.{Predecessor}
 use Rattle.demands.specs.DamageCases.{DamageCases}
 use Rattle.demands.specs.Verdicts.{Keeps}
 use Rattle.demands.specs.OneAnswer.{OneAnswer}
+use Rattle.demands.specs.Several.{Several}
 use Rattle.demands.specs.WrongReaders.{WrongReaders}
 
 pub record Demands : Type 0 where
@@ -77,3 +78,5 @@ pub record Demands : Type 0 where
   pub cases : Cases
   -- and of the bank's advice
   pub advices : AdviceCases
+  -- ---- W-203: several messages at once
+  pub several-at-once : Several

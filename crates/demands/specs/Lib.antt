@@ -1,4 +1,5 @@
 pub mod Runs
+pub mod Several
 pub mod OtherMessages
 pub mod Verdicts
 pub mod OneAnswer

@@ -54,11 +54,13 @@ use Rattle.kinds.specs.declared.Kind.{Kind}
 use Rattle.kinds.specs.Kinds.{tableOf}
 use Rattle.report.specs.declared.Report.{Report}
 use Rattle.report.specs.Reported.{Reported}
-use Rattle.walk.specs.Walks.{Walks}
+use Rattle.report.specs.Judged.{Judged}
+use Rattle.walk.specs.Walks.{Walks, Judges}
 use Rattle.rewrite.specs.declared.Rewriting.{Rewriting}
 use Rattle.rewrite.specs.Plain.{rewritingOf, roomAfter}
 use Rattle.twineherald.specs.declared.RewritingNumbers.{RewritingNumbers}
 use Rattle.twineherald.specs.Numbers.{OpenedWith, ClosedWith, Stepped, Checked, Rewritten}
+use Rattle.twineherald.specs.Several.{SteppedEach}
 
 -- a contract that no two answers meet
 abbrev pub Only : {A : Type 0} → (A → Type 0) → Type 0
@@ -77,11 +79,11 @@ abbrev pub OnlyUpTo : {A B : Type 0} → (A → B) → (A → Type 0) → Type 0
 OnlyUpTo {A} g f = (x y : A) → f x → f y → g x ≡ g y
 
 -- an answer, and the room after it
-pub record Filled (A : Type 0) : Type 0 where
+pub record Filled (A B : Type 0) : Type 0 where
   pub answer : A
-  pub room : List ℕ
+  pub room : List B
 
-abbrev pub filled : {A : Type 0} → A → List ℕ → Filled A
+abbrev pub filled : {A B : Type 0} → A → List B → Filled A B
 filled x o = record { answer = x; room = o }
 
 -- of a contract that puts a line into a room
@@ -172,8 +174,10 @@ pub record OneAnswer : Type 0 where
   pub listing-put-lists : (m : List ℕ) (v : Service) (t : List (List ℕ)) (segments orders : ℕ) (x : Lists) → OnlyIs (listsAfter t v m segments orders x)
   -- report
   pub report-check : (m : List ℕ) (v : Service) → OnlyWith (Reported v m)
+  pub report-judge : (m : List ℕ) (v : Service) → Only (Judged v m)
   -- walk
   pub walk-walk : (s : List ℕ) (at : ℕ) → OnlyWith (Walks s at)
+  pub walk-judge : (s : List ℕ) (at : ℕ) → Only (Judges s at)
   -- rewrite
   pub rewrite-rewrite : (s o o1 o2 : List ℕ) (x y : Rewriting) → x ≡ rewritingOf s (length o) → o1 ≡ roomAfter s o → y ≡ rewritingOf s (length o) → o2 ≡ roomAfter s o → filled x o1 ≡ filled y o2
   -- lines
@@ -183,6 +187,7 @@ pub record OneAnswer : Type 0 where
   -- twineherald
   pub twineherald-open : (b : List ℕ) → Only (OpenedWith b)
   pub twineherald-walk : (b : List ℕ) (at : ℕ) → OnlyWith (Stepped b at)
+  pub twineherald-walk-each : (b ps : List ℕ) (a a1 a2 : List (List ℕ)) (x y : ℕ) → SteppedEach b ps a a1 x → SteppedEach b ps a a2 y → filled x a1 ≡ filled y a2
   pub twineherald-check : (h m : List ℕ) → OnlyWith (Checked h m)
   pub twineherald-close : (b : List ℕ) → Only (ClosedWith b)
   pub twineherald-rewrite : (b o o1 o2 : List ℕ) (x y : RewritingNumbers) → Rewritten b x o o1 → Rewritten b y o o2 → filled x o1 ≡ filled y o2

@@ -13,7 +13,7 @@ use Rattle.damage.specs.Damage.{lastClosed, Before, Mark, whole, damaged, Hits,
 use Rattle.lent.specs.Lists.{Lists, Left}
 use Rattle.report.specs.declared.Report.{Report}
 use Rattle.walk.specs.declared.Walked.the-variants.{Message}
-use Rattle.walk.specs.Walks.{Walks}
+use Rattle.walk.specs.Walks.{Walks, Judges}
 use Rattle.demands.specs.Runs.{Visit, Run, Steps, Owned, Over}
 
 -- "Take an interchange that opens and a message in it that has its own UNT, as has the message before it, if there is one", or several such messages. "Replace any stretch of that message,
@@ -31,10 +31,15 @@ SameReport s s′ m m′ =
     (x : Lists) (at at′ : ℕ) (g g′ : Left Report) → Walks s at x (g .lists) (Message (startsAt m) (endsAt m) (g .answer))
     → Walks s′ at′ x (g′ .lists) (Message (startsAt m′) (endsAt m′) (g′ .answer)) → g ≡ g′
 
+-- and where either is found by a call for several positions, both are judged alike
+abbrev pub SameJudged : List ℕ → List ℕ → Extent → Extent → Type 0
+SameJudged s s′ m m′ = (at at′ : ℕ) (y y′ : Report) → Judges s at (Message (startsAt m) (endsAt m) y) → Judges s′ at′ (Message (startsAt m′) (endsAt m′) y′) → y ≡ y′
+
 -- a message that is found still, and of which the same is told, where n bytes before it became n′
 pub record Unhurt (s s′ : List ℕ) (n n′ : ℕ) (m m′ : Extent) : Type 0 where
   pub stays : Stays s s′ n n′ m m′
   pub report : SameReport s s′ m m′
+  pub judged : SameJudged s s′ m m′
 
 -- a call of a walk, and the one that gives the same after the damage, the place moved
 pub record Again (n n′ : ℕ) (w w′ : Visit) : Type 0 where

@@ -20,7 +20,8 @@ use Rattle.report.specs.declared.Counts.{Counts}
 use Rattle.report.specs.declared.Report.the-variants as report
 use Rattle.report.specs.Reported.{Reported}
 use Rattle.walk.specs.declared.Walked.the-variants as walked
-use Rattle.walk.specs.Walks.{between, Walks}
+use Rattle.report.specs.Judged.{Judged}
+use Rattle.walk.specs.Walks.{between, Walks, Judges}
 use Rattle.rewrite.specs.declared.Rewriting.the-variants as w
 use Rattle.rewrite.specs.Plain.{rewritingOf, roomAfter}
 use Rattle.twineherald.specs.declared.ReportNumbers.{ReportNumbers}
@@ -28,6 +29,7 @@ use Rattle.twineherald.specs.declared.StepNumbers.{StepNumbers}
 use Rattle.twineherald.specs.declared.RewritingNumbers.{RewritingNumbers}
 use Rattle.twineherald.specs.declared.ClosingNumbers.{ClosingNumbers}
 use Rattle.twineherald.specs.Numbers.{OpenedWith, ClosedWith, Stepped, Checked, Rewritten}
+use Rattle.twineherald.specs.Several.{numbersOf, Answered, SteppedEach}
 
 -- ---- the table's numbers by the call that gives them
 -- "Numbers 1 to 4 are found in that order by opening"
@@ -101,21 +103,28 @@ pub record Refusals : Type 0 where
   -- report: check
   pub checking : (v : Service) (m : List ℕ) (x x′ : Lists) (f : Refusal) → Reported v m x x′ (report.Refused f) → Tabled v m f × (x′ ≡ x)
   pub check-beyond : (v : Service) (m : List ℕ) (x x′ : Lists) (c : Counts) → Reported v m x x′ (report.Accepted c) → Beyond c x x′
+  -- judging, as if every list were long enough
+  pub judging : (v : Service) (m : List ℕ) (f : Refusal) → Judged v m (report.Refused f) → Tabled v m f
   -- walk: refused itself, or the found message is
   pub walking : (b : List ℕ) (at : ℕ) (x x′ : Lists) (f : Refusal) → Walks b at x x′ (walked.Refused f) → Nowhere byWalking f × (x′ ≡ x)
   pub walk-none : (b : List ℕ) (at : ℕ) (x x′ : Lists) → Walks b at x x′ walked.Nothing → x′ ≡ x
   pub walk-message : (b : List ℕ) (at a e : ℕ) (x x′ : Lists) (f : Refusal) → Walks b at x x′ (walked.Message a e (report.Refused f)) → TabledIn b (between b a e) f × (x′ ≡ x)
   pub walk-beyond : (b : List ℕ) (at a e : ℕ) (x x′ : Lists) (c : Counts) → Walks b at x x′ (walked.Message a e (report.Accepted c)) → Beyond c x x′
+  pub walk-judging : (b : List ℕ) (at : ℕ) (f : Refusal) → Judges b at (walked.Refused f) → Nowhere byWalking f
+  pub judge-message : (b : List ℕ) (at a e : ℕ) (f : Refusal) → Judges b at (walked.Message a e (report.Refused f)) → TabledIn b (between b a e) f
   -- rewrite
   pub rewriting : (s o : List ℕ) (f : Refusal) → rewritingOf s (length o) ≡ w.Refused f → Nowhere byRewriting f × (roomAfter s o ≡ o)
   pub rewrite-beyond : (s o : List ℕ) (n : ℕ) → rewritingOf s (length o) ≡ w.Written n → drop n (roomAfter s o) ≡ drop n o
-  -- the five calls for C, in which number 0 is no refusal
+  -- the six calls for C, in which number 0 is no refusal; of the walk from several positions the call's own refusal, and each answer
   pub c-open : (b : List ℕ) (x : ℕ) → OpenedWith b x → among x (0 ∷ byOpening) ≡ true
   pub c-close : (b : List ℕ) (y : ClosingNumbers) → ClosedWith b y → among (y .number) (0 ∷ byClosing) ≡ true
   pub c-check : (h m : List ℕ) (x x′ : Lists) (y : ReportNumbers) → Checked h m x x′ y → (y .number ≡ 0 → ⊥)
       → (Nowhere (2 ∷ []) (refusalIn y) ⊎ TabledIn h m (refusalIn y)) × (x′ ≡ x)
   pub c-walk : (b : List ℕ) (at : ℕ) (x x′ : Lists) (y : StepNumbers) → Stepped b at x x′ y → (y .report .number ≡ 0 → ⊥)
       → (Nowhere byWalking (refusalIn (y .report)) ⊎ TabledIn b (between b (y .start) (y .end)) (refusalIn (y .report))) × (x′ ≡ x)
+  pub c-walk-each : (b ps : List ℕ) (a a′ : List (List ℕ)) (x : ℕ) → SteppedEach b ps a a′ x → (x ≡ 0 → ⊥) → (x ≡ 14) × (a′ ≡ a)
+  pub c-answer : (b : List ℕ) (at : ℕ) (y : StepNumbers) → Answered b at (numbersOf y) → (y .report .number ≡ 0 → ⊥)
+      → Nowhere byWalking (refusalIn (y .report)) ⊎ TabledIn b (between b (y .start) (y .end)) (refusalIn (y .report))
   pub c-rewrite : (b o o′ : List ℕ) (y : RewritingNumbers) → Rewritten b y o o′ → (y .number ≡ 0 → ⊥) → (among (y .number) byRewriting ≡ true) × (o′ ≡ o)
   -- past the counts that C receives, which are 0 of a refusal, and past the length, nothing is changed
   pub c-check-beyond : (h m : List ℕ) (x x′ : Lists) (y : ReportNumbers) → Checked h m x x′ y → Beyond (countsIn y) x x′

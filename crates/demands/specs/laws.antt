@@ -8,5 +8,6 @@ pub mod PredecessorLaws
 pub mod RefusalsLaws
 pub mod RewriteKeeps
 pub mod RunLaws
+pub mod SeveralLaws
 pub mod VerdictLaws
 pub mod WrongReadersLaws

@@ -1,3 +1,4 @@
+pub mod Judged
 pub mod Reported
 pub mod forms
 pub mod laws

@@ -1,2 +1,3 @@
 pub mod Checks
 pub mod Few
+pub mod Judging

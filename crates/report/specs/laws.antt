@@ -6,9 +6,12 @@ pub mod CountLaws
 pub mod EarlyLaws
 pub mod FewLaws
 pub mod FillLaws
+pub mod FreeLaws
+pub mod JudgeLaws
 pub mod KindLaws
 pub mod LateLaws
 pub mod LeastLaws
+pub mod LongLaws
 pub mod PieceLaws
 pub mod RefusalLaws
 pub mod ReportedLaws

@@ -7,12 +7,12 @@ ghost use Rattle.lent.specs.Lists.{lists};
 ghost use lib.ListN.{length};
 ghost use Rattle.service.specs.Service.{fitting};
 ghost use Rattle.kinds.specs.declared.Kind.the-variants.{Paymul, Debmul};
-ghost use Rattle.kinds.specs.Kinds.{tableOf};
 ghost use Rattle.message.specs.Kinds.{means};
 ghost use Rattle.message.specs.Placed.{placedOn};
 ghost use Rattle.message.specs.Faults.{tellAll, leastOf};
-ghost use Rattle.listing.specs.Listing.{listsAfter};
 ghost use Rattle.report.specs.Reported.{Reported};
+ghost use Rattle.report.specs.Judged.{Judged};
+ghost use Rattle.report.specs.forms.Judging.{roomBy, JudgedIn, listsOf, listsBy};
 ghost use Rattle.report.specs.forms.Checks.{endsWith, kindAt, typed, headedAt, outright, earlyFault, Begun, Sorted, misfitAt, Misfit, Late, listedOrders, byteRefusal, startBy, refusalAt};
 use chart::Placed;
 use faults::Fault;
@@ -34,6 +34,13 @@ pub struct Counts {
 pub enum Report {
     Accepted(Counts),
     Refused(Refusal),
+}
+
+// How long lent lists are.
+struct Room {
+    rows: usize,
+    starts: usize,
+    totals: usize,
 }
 
 // 1 for too many bytes, 2 for characters that are not fit, else 0.
@@ -144,7 +151,7 @@ fn misfit_of(m: &[u8], v: Service, kind: Kind) -> Fault
 }
 
 // The rules of a kind on a message with a tally, its rows on a table.
-fn judge(m: &[u8], v: Service, kind: Kind, chart: &[[u8; COLUMNS]], t: Tally) -> Fault
+fn rule_fault(m: &[u8], v: Service, kind: Kind, chart: &[[u8; COLUMNS]], t: Tally) -> Fault
     ensures { λ r. ⌜ r ≡ leastOf (tellAll (means kind .rules (t .segments) (t .orders) (placedOn (now (chart .entry)) v (now (m .entry))))) ⌝ }
 {
     match kind {
@@ -167,7 +174,7 @@ fn late_fault(
     ensures { λ r. ⌜ Late kind v (now (m .entry)) (t .segments) (t .orders) r ⌝ }
 {
     match misfit {
-        Fault::None => judge(m, v, kind, chart, t),
+        Fault::None => rule_fault(m, v, kind, chart, t),
         Fault::At(_, _) => misfit,
     }
 }
@@ -214,54 +221,26 @@ fn totals_of(kind: Kind, orders: usize) -> usize
     }
 }
 
-// Whether the lists are long enough for a message of a kind.
-fn fits(kind: Kind, t: Tally, rows: usize, starts: usize, totals: usize) -> bool
-    ensures { λ r. ⌜ r ≡ leb (t .segments) rows && leb (t .segments) starts && leb (listedOrders kind (t .orders)) totals ⌝ }
+// Whether lists of this room are long enough for a message of a kind.
+fn fits(kind: Kind, t: Tally, room: Room) -> bool
+    ensures { λ r. ⌜ r ≡ leb (t .segments) (room .rows) && leb (t .segments) (room .starts) && leb (listedOrders kind (t .orders)) (room .totals) ⌝ }
 {
-    let segments = truth::both(t.segments <= rows, t.segments <= starts);
-    truth::both(segments, totals_of(kind, t.orders) <= totals)
-}
-
-// The lists of a message of a kind, with a tally, its rows on the chart.
-fn put_all(
-    m: &[u8],
-    v: Service,
-    kind: Kind,
-    chart: &[[u8; COLUMNS]],
-    t: Tally,
-    rows: &mut [u16],
-    starts: &mut [u32],
-    totals: &mut [u64],
-)
-    requires { ⌜ Begun kind (now chart) v (now m) ⌝ }
-    ensures { λ _. ⌜ lists (now (rows .exit)) (now (starts .exit)) (now (totals .exit)) ≡ listsAfter (tableOf kind) v (now (m .entry)) (t .segments) (listedOrders kind (t .orders)) (lists (now (rows .entry)) (now (starts .entry)) (now (totals .entry))) ⌝ }
-{
-    listing::put_lists(
-        m,
-        v,
-        chart,
-        t.segments,
-        totals_of(kind, t.orders),
-        rows,
-        starts,
-        totals,
-    );
+    let segments = truth::both(t.segments <= room.rows, t.segments <= room.starts);
+    truth::both(segments, totals_of(kind, t.orders) <= room.totals)
 }
 
 // The report of a message of at most so many bytes, with fit characters, by what placing it found.
-fn report_with(
+fn judge_with(
     m: &[u8],
     v: Service,
     kind: Kind,
     chart: &[[u8; COLUMNS]],
     misfit: Fault,
-    rows: &mut [u16],
-    starts: &mut [u32],
-    totals: &mut [u64],
+    room: Room,
 ) -> Report
     requires { ⌜ Begun kind (now chart) v (now m) ⌝ }
     requires { ⌜ Misfit kind v (now m) misfit ⌝ }
-    ensures { λ r. ⌜ Reported v (now (m .entry)) (lists (now (rows .entry)) (now (starts .entry)) (now (totals .entry))) (lists (now (rows .exit)) (now (starts .exit)) (now (totals .exit))) r ⌝ }
+    ensures { λ r. ⌜ JudgedIn v (now (m .entry)) (roomBy room) r ⌝ }
 {
     let t = tally::tally_of(m, v);
     let bad = t.bad;
@@ -272,12 +251,11 @@ fn report_with(
     if let Fault::At(number, segment) = early {
         return Report::Refused(refusal_at(m, v, number, segment));
     }
-    if fits(kind, t, rows.len(), starts.len(), totals.len()) {
+    if fits(kind, t, room) {
         let late = late_fault(m, v, kind, chart, misfit, t);
         if let Fault::At(number, segment) = late {
             return Report::Refused(refusal_at(m, v, number, segment));
         }
-        put_all(m, v, kind, chart, t, rows, starts, totals);
         return Report::Accepted(Counts {
             segments: t.segments,
             orders: t.orders,
@@ -288,61 +266,141 @@ fn report_with(
 }
 
 // The same of an order, with its chart.
-fn report_order(
-    m: &[u8],
-    v: Service,
-    kind: Kind,
-    misfit: Fault,
-    rows: &mut [u16],
-    starts: &mut [u32],
-    totals: &mut [u64],
-) -> Report
+fn judge_order(m: &[u8], v: Service, kind: Kind, misfit: Fault, room: Room) -> Report
     requires { ⌜ Sorted kind v (now m) misfit ⌝ }
     requires { ⌜ kind ≡ Paymul ⌝ }
-    ensures { λ r. ⌜ Reported v (now (m .entry)) (lists (now (rows .entry)) (now (starts .entry)) (now (totals .entry))) (lists (now (rows .exit)) (now (starts .exit)) (now (totals .exit))) r ⌝ }
+    ensures { λ r. ⌜ JudgedIn v (now (m .entry)) (roomBy room) r ⌝ }
 {
     let chart = paymul::chart();
-    report_with(m, v, kind, &chart, misfit, rows, starts, totals)
+    judge_with(m, v, kind, &chart, misfit, room)
 }
 
 // The same of an advice, with its chart.
-fn report_advice(
-    m: &[u8],
-    v: Service,
-    kind: Kind,
-    misfit: Fault,
-    rows: &mut [u16],
-    starts: &mut [u32],
-    totals: &mut [u64],
-) -> Report
+fn judge_advice(m: &[u8], v: Service, kind: Kind, misfit: Fault, room: Room) -> Report
     requires { ⌜ Sorted kind v (now m) misfit ⌝ }
     requires { ⌜ kind ≡ Debmul ⌝ }
-    ensures { λ r. ⌜ Reported v (now (m .entry)) (lists (now (rows .entry)) (now (starts .entry)) (now (totals .entry))) (lists (now (rows .exit)) (now (starts .exit)) (now (totals .exit))) r ⌝ }
+    ensures { λ r. ⌜ JudgedIn v (now (m .entry)) (roomBy room) r ⌝ }
 {
     let chart = debmul::chart();
-    report_with(m, v, kind, &chart, misfit, rows, starts, totals)
+    judge_with(m, v, kind, &chart, misfit, room)
 }
 
 // The same, by the kind.
-fn report_placed(
+fn judge_placed(m: &[u8], v: Service, kind: Kind, misfit: Fault, room: Room) -> Report
+    requires { ⌜ Sorted kind v (now m) misfit ⌝ }
+    ensures { λ r. ⌜ JudgedIn v (now (m .entry)) (roomBy room) r ⌝ }
+{
+    match kind {
+        Kind::Paymul => judge_order(m, v, kind, misfit, room),
+        Kind::Debmul => judge_advice(m, v, kind, misfit, room),
+    }
+}
+
+// The lists of an order with such counts.
+fn put_order(
+    m: &[u8],
+    v: Service,
+    c: Counts,
+    rows: &mut [u16],
+    starts: &mut [u32],
+    totals: &mut [u64],
+)
+    ensures { λ _. ⌜ lists (now (rows .exit)) (now (starts .exit)) (now (totals .exit)) ≡ listsOf Paymul v (now (m .entry)) c (lists (now (rows .entry)) (now (starts .entry)) (now (totals .entry))) ⌝ }
+{
+    let chart = paymul::chart();
+    listing::put_lists(m, v, &chart, c.segments, c.orders, rows, starts, totals);
+}
+
+// The lists of an advice with such counts.
+fn put_advice(
+    m: &[u8],
+    v: Service,
+    c: Counts,
+    rows: &mut [u16],
+    starts: &mut [u32],
+    totals: &mut [u64],
+)
+    ensures { λ _. ⌜ lists (now (rows .exit)) (now (starts .exit)) (now (totals .exit)) ≡ listsOf Debmul v (now (m .entry)) c (lists (now (rows .entry)) (now (starts .entry)) (now (totals .entry))) ⌝ }
+{
+    let chart = debmul::chart();
+    listing::put_lists(m, v, &chart, c.segments, 0, rows, starts, totals);
+}
+
+// The lists of a message of a kind with such counts.
+fn put_all(
     m: &[u8],
     v: Service,
     kind: Kind,
-    misfit: Fault,
+    c: Counts,
+    rows: &mut [u16],
+    starts: &mut [u32],
+    totals: &mut [u64],
+)
+    ensures { λ _. ⌜ lists (now (rows .exit)) (now (starts .exit)) (now (totals .exit)) ≡ listsOf kind v (now (m .entry)) c (lists (now (rows .entry)) (now (starts .entry)) (now (totals .entry))) ⌝ }
+{
+    match kind {
+        Kind::Paymul => put_order(m, v, c, rows, starts, totals),
+        Kind::Debmul => put_advice(m, v, c, rows, starts, totals),
+    }
+}
+
+// The lists of a message with this report: of one that is refused nothing is written.
+fn put_accepted(
+    m: &[u8],
+    v: Service,
+    r: Report,
+    rows: &mut [u16],
+    starts: &mut [u32],
+    totals: &mut [u64],
+)
+    ensures { λ _. ⌜ lists (now (rows .exit)) (now (starts .exit)) (now (totals .exit)) ≡ listsBy v (now (m .entry)) r (lists (now (rows .entry)) (now (starts .entry)) (now (totals .entry))) ⌝ }
+{
+    match r {
+        Report::Accepted(c) => put_all(m, v, kind_of(m, v), c, rows, starts, totals),
+        Report::Refused(_) => {}
+    }
+}
+
+// The report of a message's bytes, which begin with its UNH: judged as with lists of this room; then, if it is accepted and they are long enough, those that are lent are written.
+fn check_in(
+    m: &[u8],
+    v: Service,
+    room: Room,
     rows: &mut [u16],
     starts: &mut [u32],
     totals: &mut [u64],
 ) -> Report
-    requires { ⌜ Sorted kind v (now m) misfit ⌝ }
-    ensures { λ r. ⌜ Reported v (now (m .entry)) (lists (now (rows .entry)) (now (starts .entry)) (now (totals .entry))) (lists (now (rows .exit)) (now (starts .exit)) (now (totals .exit))) r ⌝ }
+    ensures { λ r. ⌜ JudgedIn v (now (m .entry)) (roomBy room) r ⌝ }
+    ensures { λ r. ⌜ lists (now (rows .exit)) (now (starts .exit)) (now (totals .exit)) ≡ listsBy v (now (m .entry)) r (lists (now (rows .entry)) (now (starts .entry)) (now (totals .entry))) ⌝ }
 {
-    match kind {
-        Kind::Paymul => report_order(m, v, kind, misfit, rows, starts, totals),
-        Kind::Debmul => report_advice(m, v, kind, misfit, rows, starts, totals),
+    let number = refused_outright(m, v);
+    if number != 0 {
+        return Report::Refused(interchange::refuse(number));
     }
+    let kind = kind_of(m, v);
+    let misfit = misfit_of(m, v, kind);
+    let r = judge_placed(m, v, kind, misfit, room);
+    put_accepted(m, v, r, rows, starts, totals);
+    r
 }
 
-// The report of a message's bytes, which begin with its UNH.
+// The report of a message's bytes as if every list were long enough: no message has more segments than bytes. None is lent, so that none is written.
+pub fn judge(m: &[u8], v: Service) -> Report
+    ensures { λ r. ⌜ Judged v (now (m .entry)) r ⌝ }
+{
+    let n = m.len();
+    let room = Room {
+        rows: n,
+        starts: n,
+        totals: n,
+    };
+    let mut rows: [u16; 0] = [];
+    let mut starts: [u32; 0] = [];
+    let mut totals: [u64; 0] = [];
+    check_in(m, v, room, &mut rows, &mut starts, &mut totals)
+}
+
+// The report of a message's bytes: judged, and its lists written if it is accepted.
 pub fn check(
     m: &[u8],
     v: Service,
@@ -352,11 +410,10 @@ pub fn check(
 ) -> Report
     ensures { λ r. ⌜ Reported v (now (m .entry)) (lists (now (rows .entry)) (now (starts .entry)) (now (totals .entry))) (lists (now (rows .exit)) (now (starts .exit)) (now (totals .exit))) r ⌝ }
 {
-    let number = refused_outright(m, v);
-    if number != 0 {
-        return Report::Refused(interchange::refuse(number));
-    }
-    let kind = kind_of(m, v);
-    let misfit = misfit_of(m, v, kind);
-    report_placed(m, v, kind, misfit, rows, starts, totals)
+    let room = Room {
+        rows: rows.len(),
+        starts: starts.len(),
+        totals: totals.len(),
+    };
+    check_in(m, v, room, rows, starts, totals)
 }

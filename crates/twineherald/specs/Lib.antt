@@ -1,2 +1,4 @@
 pub mod Numbers
+pub mod Several
+pub mod forms
 pub mod laws

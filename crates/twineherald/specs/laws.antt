@@ -1,1 +1,3 @@
+pub mod FewLaws
 pub mod NumbersLaws
+pub mod SeveralLaws

@@ -1,9 +1,12 @@
-// The calls for C: open, walk, check, close and rewrite on byte slices and numbers. include/twineherald.h declares them.
+// The calls for C: open, walk from one position or from several, check, close and rewrite on byte slices and numbers. include/twineherald.h declares them.
 ghost use mathlib.Core.Path.{_≡_};
 ghost use Prim.Native.Nat.{_%_, _≤_};
+ghost use lib.ListN.{length};
 ghost use Rattle.lent.specs.Lists.{lists};
 ghost use Rattle.report.specs.forms.Few.{Few, FewIn};
-ghost use Rattle.twineherald.specs.Numbers.{acceptedOf, refusedOf, reportOf, nothingOf, stepWith, OpenedWith, ClosedWith, Stepped, Checked, Rewritten};
+ghost use Rattle.twineherald.specs.Numbers.{acceptedOf, refusedOf, reportOf, nothingOf, stepWith, stepOf, OpenedWith, ClosedWith, Stepped, Checked, Rewritten};
+ghost use Rattle.twineherald.specs.Several.{numbersOf, Answered, AnsweredEach, SteppedEach};
+ghost use Rattle.twineherald.specs.forms.Few.{FewWalked};
 use interchange::Opening;
 use interchange::Refusal;
 use report::Counts;
@@ -112,6 +115,52 @@ fn step_numbers(found: u32, start: usize, end: usize, r: ReportNumbers) -> StepN
     }
 }
 
+fn step_of(w: Walked) -> StepNumbers
+    requires { ⌜ FewWalked w ⌝ }
+    ensures { λ x. ⌜ x ≡ stepOf w ⌝ }
+{
+    match w {
+        Walked::Message(start, end, r) => step_numbers(1, start, end, report_numbers(r)),
+        Walked::Nothing => step_numbers(0, 0, 0, nothing()),
+        Walked::Refused(f) => step_numbers(0, 0, 0, refused(f)),
+    }
+}
+
+fn numbers_of(y: StepNumbers) -> [u32; 9]
+    ensures { λ x. ⌜ x ≡ numbersOf y ⌝ }
+{
+    let r = y.report;
+    [
+        y.found,
+        y.start,
+        y.end,
+        r.number,
+        r.segment,
+        r.offset,
+        r.segments,
+        r.orders,
+        r.payments,
+    ]
+}
+
+fn answer_at(bytes: &[u8], at: usize) -> [u32; 9]
+    ensures { λ x. ⌜ Answered (now (bytes .entry)) at x ⌝ }
+{
+    numbers_of(step_of(walk::judge(bytes, at)))
+}
+
+fn answer_each(bytes: &[u8], positions: &[usize], answers: &mut [[u32; 9]])
+    requires { ⌜ length (now positions) ≤ length (now answers) ⌝ }
+    ensures { λ _. ⌜ AnsweredEach (now (bytes .entry)) (now (positions .entry)) (now (answers .entry)) (now (answers .exit)) ⌝ }
+{
+    let mut i = 0;
+    while i < positions.len() {
+        let at = positions[i];
+        answers[i] = answer_at(bytes, at);
+        i += 1;
+    }
+}
+
 #[no_mangle]
 pub extern "C" fn twineherald_open(bytes: &[u8]) -> u32
     ensures { λ x. ⌜ OpenedWith (now (bytes .entry)) x ⌝ }
@@ -133,12 +182,22 @@ pub extern "C" fn twineherald_walk(
 ) -> StepNumbers
     ensures { λ x. ⌜ Stepped (now (bytes .entry)) at (lists (now (rows .entry)) (now (starts .entry)) (now (totals .entry))) (lists (now (rows .exit)) (now (starts .exit)) (now (totals .exit))) x ⌝ }
 {
-    let w = walk::walk(bytes, at, rows, starts, totals);
-    match w {
-        Walked::Message(start, end, r) => step_numbers(1, start, end, report_numbers(r)),
-        Walked::Nothing => step_numbers(0, 0, 0, nothing()),
-        Walked::Refused(f) => step_numbers(0, 0, 0, refused(f)),
+    step_of(walk::walk(bytes, at, rows, starts, totals))
+}
+
+#[no_mangle]
+pub extern "C" fn twineherald_walk_each(
+    bytes: &[u8],
+    positions: &[usize],
+    answers: &mut [[u32; 9]],
+) -> u32
+    ensures { λ x. ⌜ SteppedEach (now (bytes .entry)) (now (positions .entry)) (now (answers .entry)) (now (answers .exit)) x ⌝ }
+{
+    if answers.len() < positions.len() {
+        return 14;
     }
+    answer_each(bytes, positions, answers);
+    0
 }
 
 #[no_mangle]

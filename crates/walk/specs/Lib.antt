@@ -1,3 +1,4 @@
 pub mod Frame
 pub mod Walks
+pub mod forms
 pub mod laws

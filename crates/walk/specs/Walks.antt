@@ -10,9 +10,10 @@ use Rattle.interchange.specs.declared.Refusal.{Refusal}
 use Rattle.lent.specs.Lists.{Lists}
 use Rattle.report.specs.declared.Report.{Report}
 use Rattle.report.specs.Reported.{Reported}
+use Rattle.report.specs.Judged.{Enough}
 use Rattle.walk.specs.declared.Walked.{Walked}
 use Rattle.walk.specs.declared.Walked.the-variants as walked
-use Rattle.walk.specs.Frame.{message, nothing, refused, stepAt, stepFrom}
+use Rattle.walk.specs.Frame.{message, nothing, refused, stepFrom}
 
 -- "The bytes of a found message are handed on as a part of the interchange": from a up to but excluding e
 abbrev pub between : List ℕ → ℕ → ℕ → List ℕ
@@ -25,8 +26,10 @@ pub data Walks (s : List ℕ) (at : ℕ) (x x′ : Lists) : Walked → Type 0 wh
   walks-nothing : nothing ≡ stepFrom s at → x′ ≡ x → Walks s at x x′ walked.Nothing
   walks-refused : (f : Refusal) → refused f ≡ stepFrom s at → x′ ≡ x → Walks s at x x′ (walked.Refused f)
 
--- the same with the service characters at hand
-pub data WalksWith (v : Service) (s : List ℕ) (at : ℕ) (x x′ : Lists) : Walked → Type 0 where
-  with-message : (a e : ℕ) (y : Report) → message a e ≡ stepAt v s at → Reported v (between s a e) x x′ y → WalksWith v s at x x′ (walked.Message a e y)
-  with-nothing : nothing ≡ stepAt v s at → x′ ≡ x → WalksWith v s at x x′ walked.Nothing
-  with-refused : (f : Refusal) → refused f ≡ stepAt v s at → x′ ≡ x → WalksWith v s at x x′ (walked.Refused f)
+-- W-203, "judged as if they were long enough": lists that are, for the message that the step finds
+abbrev pub LongEnough : List ℕ → ℕ → Lists → Type 0
+LongEnough s at x = (v : Service) (una a e : ℕ) → charactersOf s ≡ Fit v una → message a e ≡ stepFrom s at → Enough v (between s a e) x
+
+-- "what the single call gives at that position" with such lists
+pub data Judges (s : List ℕ) (at : ℕ) (w : Walked) : Type 0 where
+  judges : (x x′ : Lists) → LongEnough s at x → Walks s at x x′ w → Judges s at w

@@ -1,3 +1,5 @@
 pub mod FrameLaws
+pub mod JudgesLaws
 pub mod PlaceLaws
+pub mod SeeksLaws
 pub mod WalksLaws

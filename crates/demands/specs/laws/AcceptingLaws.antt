@@ -2,10 +2,8 @@
 use Prim.Native.Nat.{ℕ}
 use native.Mathlib.Omega.{arith}
 use mathlib.Core.Path.{_≡_, refl, sym, _∙_, ap, subst}
-use mathlib.Core.List.{List, [], _∷_, _++_}
+use mathlib.Core.List.{List, [], _∷_}
 use mathlib.Core.Bool.{Bool, true, false}
-use lib.ListN.{length}
-use lib.Dec.{leb}
 use Rattle.service.specs.declared.Service.{Service}
 use Rattle.service.specs.Tests.{if}
 use Rattle.lent.specs.Lists.{Lists, Left, left}
@@ -20,79 +18,27 @@ use Rattle.faults.specs.declared.Fault.the-variants as fault
 use Rattle.message.specs.Segs.{segsOf}
 use Rattle.message.specs.Rules.{totalsOf}
 use Rattle.message.specs.Kinds.{means, chartFor, rulesFor}
-use Rattle.message.specs.Faults.{Told, told, tell, tellAll, leastOf}
+use Rattle.message.specs.Faults.{Told, told, tellAll, leastOf}
 use Rattle.report.specs.declared.Counts.{Counts}
 use Rattle.report.specs.declared.Report.{Report}
 use Rattle.report.specs.declared.Report.the-variants.{Accepted}
-use Rattle.report.specs.Reported.{Bare, bareOf, Room, roomOf, toldUnless, rule10, headed, fits, early, In, here, there, Of, Applies, soon, late, countsOf, filled, Reported, accepted, refused}
+use Rattle.report.specs.Reported.{bareOf, Room, roomOf, early, In, here, Of, Applies, soon, late, countsOf, filled, Reported, accepted, refused}
 use Rattle.report.specs.laws.ReportedLaws.{one-report}
-use Rattle.report.specs.laws.ToldLaws.{Every, All, all-told}
+use Rattle.report.specs.laws.FreeLaws.{short-told, free-fits}
 use Rattle.report.specs.laws.LateLaws.{late-none}
 use Rattle.report.specs.laws.KindLaws.{one-kind}
-use Rattle.demands.specs.laws.RefusalsLaws.{every}
 use Rattle.demands.specs.Accepting.{Meets, Accepting}
 
 nothing-in : (l : List Told) → ((n s : ℕ) → In (told n s) l → ⊥) → l ≡ []
 nothing-in [] h = refl
 nothing-in (a ∷ l) h = absurd (h (a .number) (a .segment) here)
 
--- rules whose number is another than 14
-abbrev Other : List (ℕ × List ℕ) → Type 0
-Other [] = Unit {0}
-Other (r ∷ rs) = (r .0 ≡ 14 → ⊥) × Other rs
-
-unless-short : (b : Bool) → Every (λ s. _≡_ {A = ℕ} 14 14 → b ≡ false) (toldUnless b 0)
-unless-short true = tt
-unless-short false = (λ e. refl, tt)
-
--- rules of other numbers, then 14
-short-by : (b : Bool) (rs : List (ℕ × List ℕ)) → Other rs → All (λ n s. n ≡ 14 → b ≡ false) (rs ++ (14, toldUnless b 0) ∷ [])
-short-by b [] h = (unless-short b, tt)
-short-by b (r ∷ rs) h = (every (λ s. r .0 ≡ 14 → b ≡ false) (λ s e. absurd (h .0 e)) (r .1), short-by b rs (h .1))
-
--- what a rule tells is told
-behind : (k l : List Told) (a : Told) → In a l → In a (k ++ l)
-behind [] l a i = i
-behind (b ∷ k) l a i = there (behind k l a i)
-
-pub told-in : (front back : List (ℕ × List ℕ)) (n s : ℕ) → In (told n s) (tellAll (front ++ (n, s ∷ []) ∷ back))
-unfolding tell tellAll
-told-in [] back n s = here
-told-in (r ∷ rs) back n s = behind (tell (r .0) (r .1)) (tellAll (rs ++ (n, s ∷ []) ∷ back)) (told n s) (told-in rs back n s)
-
 module _ (v : Service) (m : List ℕ) (x : Room) where
-  -- where 14 is told the lists are too short
-  short-told : (s : ℕ) → In (told 14 s) (tellAll (early (bareOf v m) x)) → fits (bareOf v m .segments) x ≡ false
-  unfolding early
-  short-told s i =
-      let b : Bare = bareOf v m in
-      let w = short-by (fits (b .segments) x)
-      ((1, toldUnless (b .short) 0) ∷ (2, toldUnless (b .fit) 0) ∷ (10, rule10 1 (b .segments)) ∷ (11, toldUnless (b .closed) 1)
-      ∷ (12, toldUnless (headed (b .segments)) 1) ∷ (13, toldUnless (leb (length (b .segments)) 9999) 10000) ∷ [])
-      (λ e. omega arith, (λ e. omega arith, (λ e. omega arith, (λ e. omega arith, (λ e. omega arith, (λ e. omega arith, tt)))))) in
-      all-told (λ n s. n ≡ 14 → fits (bareOf v m .segments) x ≡ false) (early (bareOf v m) x) (told 14 s) w i refl
-
-  -- where they are it is told
-  short-applies : fits (bareOf v m .segments) x ≡ false → In (told 14 0) (tellAll (early (bareOf v m) x))
-  unfolding early
-  short-applies e =
-      let b : Bare = bareOf v m in
-      let front : List (ℕ × List ℕ) = (1, toldUnless (b .short) 0) ∷ (2, toldUnless (b .fit) 0) ∷ (10, rule10 1 (b .segments)) ∷ (11, toldUnless (b .closed) 1)
-      ∷ (12, toldUnless (headed (b .segments)) 1) ∷ (13, toldUnless (leb (length (b .segments)) 9999) 10000) ∷ [] in
-      subst (λ (t : Bool). In (told 14 0) (tellAll (front ++ (14, toldUnless t 0) ∷ []))) (sym e) (told-in front [] 14 0)
-
-  long-is : ((n s : ℕ) → Applies v m x n s → ⊥) → fits (bareOf v m .segments) x ≡ true
-  long-is free = go (fits (bareOf v m .segments) x) refl
-    where
-      go : (b : Bool) → fits (bareOf v m .segments) x ≡ b → fits (bareOf v m .segments) x ≡ true
-      go true e = e
-      go false e = absurd (free 14 0 (soon (short-applies e)))
-
   meets : (k : Kind) → Of k v m → (rows : List ℕ) → Reading (chartFor k) (tagsOf v m) rows → ((n s : ℕ) → Applies v m x n s → ⊥) → Meets v m x
   meets k o rows r free = record {
     kind = k;
     of = o;
-    long = long-is free;
+    long = free-fits v m x free;
     rows = rows;
     placement = r .placement;
     bytes = λ n s i. absurd (free n s (soon i));
@@ -105,7 +51,7 @@ module _ (v : Service) (m : List ℕ) (x : Room) where
 
   quiet : Meets v m x → tellAll (early (bareOf v m) x) ≡ []
   quiet w = nothing-in (tellAll (early (bareOf v m) x)) (λ n s i.
-      let e = short-told s (subst (λ (k : ℕ). In (told k s) (tellAll (early (bareOf v m) x))) (w .bytes n s i) i) in
+      let e = short-told v m x s (subst (λ (k : ℕ). In (told k s) (tellAll (early (bareOf v m) x))) (w .bytes n s i) i) in
       let z : true ≡ false = sym (w .long) ∙ e in
       let y : _≡_ {A = ℕ} 0 1 = cc in omega arith)
 

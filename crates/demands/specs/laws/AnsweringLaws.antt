@@ -1,7 +1,8 @@
 -- Every contract can be met. Assumes nothing.
-use Prim.Native.Nat.{ℕ, _+_}
+use Prim.Native.Nat.{ℕ, _+_, _≤_, _<_}
 use native.Mathlib.Omega.{arith}
-use mathlib.Core.Path.{_≡_, refl, sym, subst}
+use native.Mathlib.Decide.{decLt}
+use mathlib.Core.Path.{_≡_, refl, sym, _∙_, subst}
 use mathlib.Core.Logic.{_⊎_, inl, inr}
 use mathlib.Core.List.{List, [], _∷_, _++_}
 use mathlib.Core.Bool.{Bool, true, false}
@@ -24,7 +25,7 @@ use Rattle.interchange.specs.laws.OpenedLaws.{is-opening}
 use Rattle.interchange.specs.laws.ClosingLaws.{is-closing}
 use Rattle.faults.specs.declared.Fault.{Fault}
 use Rattle.faults.specs.declared.Fault.the-variants as fault
-use Rattle.lent.specs.Lists.{Lists, left}
+use Rattle.lent.specs.Lists.{Lists, lists, left}
 use Rattle.chart.specs.Chart.{Placement, FailsAt, Reading}
 use Rattle.chart.specs.Tags.{tagsOf}
 use Rattle.values.specs.forms.Codes.{UNT}
@@ -36,20 +37,29 @@ use Rattle.chart.proofs.Tables.{sound}
 use Rattle.message.specs.Segs.{segsOf}
 use Rattle.message.specs.Kinds.{chartFor, rulesFor}
 use Rattle.message.specs.Faults.{told, tellAll, leastOf}
+use Rattle.report.specs.declared.Report.{Report}
 use Rattle.report.specs.declared.Report.the-variants as report
 use Rattle.report.specs.Reported.{Bare, bareOf, toldUnless, rule10, headed, fits, early, In, Of, Lowest, offsetOf, countsOf, filled, roomOf, Reported, accepted, refused}
+use Rattle.report.specs.Judged.{Judged, judged as judged-so}
+use Rattle.report.specs.laws.JudgeLaws.{bytes-enough}
 use Rattle.report.specs.laws.LeastLaws.{nowhere}
+use Rattle.report.specs.laws.FreeLaws.{told-in}
 use Rattle.report.specs.laws.EarlyLaws.{early-lowest, early-none}
 use Rattle.report.specs.laws.LateLaws.{late-none, late-lowest, misfit-lowest}
 use Rattle.report.specs.laws.ClosedLaws.{closes}
 use Rattle.report.specs.laws.KindLaws.{headed-of}
 use Rattle.report.specs.forms.Checks.{kindAt}
+use Rattle.walk.specs.declared.Walked.{Walked}
 use Rattle.walk.specs.declared.Walked.the-variants as walked
 use Rattle.walk.specs.Frame.{Step, message, nothing, stepWith, stepFrom}
 use Rattle.walk.specs.Frame as frame
-use Rattle.walk.specs.Walks.{between, Walks, walks-message, walks-nothing, walks-refused}
+use Rattle.walk.specs.Walks.{between, Walks, walks-message, walks-nothing, walks-refused, Judges, judges}
+use Rattle.walk.specs.laws.WalksLaws.{other, other′}
+use Rattle.walk.specs.laws.JudgesLaws.{enough-at}
 use Rattle.twineherald.specs.Numbers.{refusedOf, reportOf, stepOf, closingNumbers, opened, closed, Stepped, stepped, Checked, checked, unfit}
-use Rattle.demands.specs.laws.AcceptingLaws.{told-in, read}
+use Rattle.twineherald.specs.Several.{numbersOf, AnsweredEach, no-more, one-more, SteppedEach, given, shorter}
+use Rattle.twineherald.specs.laws.SeveralLaws.{answer-by}
+use Rattle.demands.specs.laws.AcceptingLaws.{read}
 use Rattle.demands.specs.Answering.{Some, Answering}
 
 -- ---- a message
@@ -137,6 +147,23 @@ module _ (b : List ℕ) (at : ℕ) (x : Lists) where
   walks : Some (Walks b at x)
   walks = steps-by (stepFrom b at) refl
 
+  judges-by : (k : Step) → stepFrom b at ≡ k → (w : Walked) × Judges b at w
+  judges-by (message a e) q =
+      let w = fits-found a e q in
+      let m = between b a e in
+      let g = checks (w .0) m (lists m m m) in (
+        walked.Message a e (g .0 .answer),
+        judges (lists m m m) (g .0 .lists) (enough-at b at (w .0) (w .1) a e (w .2) (sym q) (lists m m m) (bytes-enough (w .0) m)) (walks-message (w .0) (w .1) a e (g .0 .answer) (w .2) (sym q) (g .1)),
+      )
+  judges-by nothing q = (walked.Nothing, judges x x (λ v una a e n h. absurd (other a e (h ∙ q))) (walks-nothing (sym q) refl))
+  judges-by (frame.refused f) q = (walked.Refused f, judges x x (λ v una a e n h. absurd (other′ a e f (h ∙ q))) (walks-refused f (sym q) refl))
+
+judging : (v : Service) (m : List ℕ) → (y : Report) × Judged v m y
+judging v m = let g = checks v m (lists m m m) in (g .0 .answer, judged-so (lists m m m) (g .0 .lists) (bytes-enough v m) (g .1))
+
+walk-judging : (b : List ℕ) (at : ℕ) → (w : Walked) × Judges b at w
+walk-judging b at = judges-by b at (lists [] [] []) (stepFrom b at) refl
+
 -- ---- opening and closing
 opening : (s : List ℕ) → (o : Opening) × OpenedAs s o
 opening s = (openingOf s, is-opening s (openingOf s) refl)
@@ -152,14 +179,34 @@ c-checks h m x Unfit e = (left (refusedOf (refusal 2)) x, unfit e refl refl)
 c-walks : (b : List ℕ) (at : ℕ) (x : Lists) → Some (Stepped b at x)
 c-walks b at x = let g = walks b at x in (left (stepOf (g .0 .answer)) (g .0 .lists), stepped (g .0 .answer) (g .1) refl)
 
+-- an answer for each position
+answers : (b ps : List ℕ) (a : List (List ℕ)) → length ps ≤ length a → (a′ : List (List ℕ)) × AnsweredEach b ps a a′
+answers b [] a h = (a, no-more a a refl)
+answers b (at ∷ ps) [] h = absurd (omega arith)
+answers b (at ∷ ps) (q ∷ a) h =
+    let g = walk-judging b at in
+    let y = stepOf (g .0) in
+    let k = answers b ps a (omega arith) in
+    (numbersOf y ∷ k .0, one-more at ps q (numbersOf y) a (k .0) (answer-by b at (g .0) (g .1) y refl (numbersOf y) refl) (k .1))
+
+c-each : (b ps : List ℕ) (a : List (List ℕ)) → (a′ : List (List ℕ)) × (x : ℕ) × SteppedEach b ps a a′ x
+c-each b ps a = go (decLt (length a) (length ps))
+  where
+    go : Dec (length a < length ps) → (a′ : List (List ℕ)) × (x : ℕ) × SteppedEach b ps a a′ x
+    go (yes h) = (a, 14, shorter h refl refl)
+    go (no h) = let k = answers b ps a (omega arith) in (k .0, 0, given (k .1) refl)
+
 pub answering : Answering
 answering = record {
   opening = opening;
   closing = closing;
   check = checks;
+  judge = judging;
   walk = walks;
+  walk-judge = walk-judging;
   c-open = λ b. let g = opening b in (openingNumber (g .0), opened (g .0) (g .1) refl);
   c-close = λ b. let g = closing b in (closingNumbers (g .0), closed (g .0) (g .1) refl);
   c-check = λ h m x. c-checks h m x (charactersOf h) refl;
   c-walk = c-walks;
+  c-walk-each = c-each;
 }

@@ -20,8 +20,9 @@ use Rattle.damage.specs.Damage.{lastClosed, Stretch, Mark, whole, next, hit, re
 use Rattle.damage.specs.Damage as hits
 use Rattle.damage.specs.laws.DamageTheorem.{damage, before-unt, opens-or-refused}
 use Rattle.report.specs.laws.ReportedLaws.{one-report}
+use Rattle.walk.specs.laws.JudgesLaws.{judged-alike}
 use Rattle.demands.specs.laws.RunLaws.{inside-all, steps, owned, step-message, run-over, walked-again}
-use Rattle.demands.specs.OtherMessages.{Chosen, SameReport, Unharmed, One, only}
+use Rattle.demands.specs.OtherMessages.{Chosen, SameReport, SameJudged, Unharmed, One, only}
 
 -- ---- to each whole message belongs its like
 beside-as : {A : Type 0} {P Q : ℕ → ℕ → A → A → Type 0} → ((n n′ : ℕ) (x x′ : A) → P n n′ x x′ → Q n n′ x x′) → {n n′ : ℕ} {k : List Mark} {l l′ : List A} → Beside P n n′ k l l′ → Beside Q n n′ k l l′
@@ -37,6 +38,12 @@ same-report s v first o s′ o′ m m′ e x at at′ g g′ p q =
     let b = step-message s′ v first o′ q (startsAt m′) (endsAt m′) (g′ .answer) refl in
     one-report v (bytesOf s m) x (g .lists) (g′ .lists) (g .answer) (g′ .answer) (a .1) (rw (← e) (b .1))
 
+same-judged : (s : List ℕ) (v : Service) (first : ℕ) → openingOf s ≡ Opens v first → (s′ : List ℕ) → openingOf s′ ≡ Opens v first → (m m′ : Extent) → bytesOf s′ m′ ≡ bytesOf s m → SameJudged s s′ m m′
+same-judged s v first o s′ o′ m m′ e at at′ y y′ h h′ =
+    let f = opened s v first o in
+    let f′ = opened s′ v first o′ in
+    judged-alike s s′ v (f .una) (f′ .una) (f .named) (f′ .named) at at′ (startsAt m) (endsAt m) (startsAt m′) (endsAt m′) y y′ (sym e) h h′
+
 -- demand 3, of any number of messages
 pub other-messages : (s : List ℕ) (v : Service) (first : ℕ) (k : List Mark) → Chosen s v first k → Unharmed v s (damaged s k) first k
 other-messages s v first k c =
@@ -51,7 +58,7 @@ other-messages s v first k c =
       steps = steps s′ v first o′ (omega arith) i (walks-zero s′ v first o′);
       owned = owned s′ v first o′ i (owns s′ v first o′);
       told = λ x l r. run-over s′ v first o′ x (walks-zero s′ v first o′) r;
-      each = beside-as (λ n n′ m m′ y. record { stays = y; report = same-report s v first o s′ o′ m m′ (y .bytes) }) (w .1);
+      each = beside-as (λ n n′ m m′ y. record { stays = y; report = same-report s v first o s′ o′ m m′ (y .bytes); judged = same-judged s v first o s′ o′ m m′ (y .bytes) }) (w .1);
       same = λ x l l′ r r′. walked-again v s s′ x (w .1) (run-over s v first o x (walks-zero s v first o) r) (run-over s′ v first o′ x (walks-zero s′ v first o′) r′);
     }
 

@@ -24,6 +24,7 @@ use Rattle.demands.specs.laws.PredecessorLaws.{predecessor}
 use Rattle.demands.specs.laws.DamageCasesLaws.{damage-cases}
 use Rattle.demands.specs.laws.WrongReadersLaws.{wrong-readers}
 use Rattle.demands.specs.laws.RewriteKeeps.{keeps}
+use Rattle.demands.specs.laws.SeveralLaws.{several}
 use Rattle.demands.specs.laws.OneAnswerLaws as one
 use Rattle.demands.specs.Demands.{Demands}
 
@@ -75,4 +76,5 @@ met = record {
   wrong = wrong-readers;
   cases = cases.cases;
   advices = advice-cases;
+  several-at-once = several;
 }

@@ -13,8 +13,11 @@ use Rattle.kinds.specs.Kinds.{tableOf}
 use Rattle.chart.proofs.Answers.{one-answer}
 use Rattle.amounts.specs.laws.StepLaws.{one-sums}
 use Rattle.report.specs.laws.ReportedLaws.{one-report}
+use Rattle.report.specs.laws.JudgeLaws.{one-judged}
 use Rattle.walk.specs.laws.WalksLaws.{one-walk}
+use Rattle.walk.specs.laws.JudgesLaws.{one-judge}
 use Rattle.twineherald.specs.laws.NumbersLaws.{one-open, one-close, one-step, one-check}
+use Rattle.twineherald.specs.laws.SeveralLaws.{one-steps}
 use Rattle.lines.specs.Lines.{messageLine, endLine, openLine}
 use Rattle.demands.specs.OneAnswer.{OnlyLine, filled, OneAnswer}
 
@@ -86,13 +89,16 @@ one = record {
   advice-judge = λ m v t segments x y p q. only p q;
   listing-put-lists = λ m v t n k l x y p q. only p q;
   report-check = λ m v. one-report v m;
+  report-judge = λ m v. one-judged v m;
   walk-walk = one-walk;
+  walk-judge = one-judge;
   rewrite-rewrite = λ s o o1 o2 x y p i q j. ap₂ filled (only p q) (only i j);
   lines-message-line = λ place told. one-line (messageLine place told);
   lines-end-line = λ messages accepted strays closing. one-line (endLine messages accepted strays closing);
   lines-open-line = λ number. one-line (openLine number);
   twineherald-open = one-open;
   twineherald-walk = one-step;
+  twineherald-walk-each = λ b ps a a1 a2 x y p q. let w = one-steps b ps a a1 a2 x y p q in ap₂ filled (w .0) (w .1);
   twineherald-check = one-check;
   twineherald-close = one-close;
   twineherald-rewrite = λ b o o1 o2 x y p q. ap₂ filled (only (p .numbers) (q .numbers)) (only (p .room) (q .room));

@@ -49,7 +49,7 @@ use Rattle.report.specs.declared.Report.{Report}
 use Rattle.report.specs.declared.Report.the-variants as report
 use Rattle.report.specs.Reported.{Room, rawOf, bareOf, toldUnless, rule10, fits, early, In, here, there, Applies, soon, misfit, late, Lowest, offsetOf, countsOf, filled, roomOf, Reported, accepted, refused}
 use Rattle.report.specs.Reported as reported
-use Rattle.report.specs.laws.ToldLaws.{Every, All, all-told}
+use Rattle.report.specs.laws.ToldLaws.{Every, every, All, all-told}
 use Rattle.report.specs.laws.SmallLaws.{late-within}
 use Rattle.report.specs.laws.FillLaws.{rows-are, placed-length, totals-count}
 use Rattle.report.specs.laws.PieceLaws.{pieces-tags}
@@ -58,7 +58,8 @@ use Rattle.walk.specs.declared.Walked.{Walked}
 use Rattle.walk.specs.declared.Walked.the-variants as walked
 use Rattle.walk.specs.Frame.{Step, message, nothing, stepBy, stepAt, stepWith, stepFrom}
 use Rattle.walk.specs.Frame as frame
-use Rattle.walk.specs.Walks.{between, Walks, walks-message, walks-nothing, walks-refused}
+use Rattle.walk.specs.Walks.{between, Walks, walks-message, walks-nothing, walks-refused, Judges, judges}
+use Rattle.report.specs.Judged.{Judged, judged}
 use Rattle.rewrite.specs.declared.Rewriting.{Rewriting}
 use Rattle.rewrite.specs.declared.Rewriting.the-variants as rewriting
 use Rattle.rewrite.specs.Plain.{rewritten, rewritingBy, rewritingOf, roomBy, roomAfter}
@@ -68,6 +69,8 @@ use Rattle.twineherald.specs.declared.StepNumbers.{StepNumbers}
 use Rattle.twineherald.specs.declared.RewritingNumbers.{RewritingNumbers}
 use Rattle.twineherald.specs.declared.ClosingNumbers.{ClosingNumbers}
 use Rattle.twineherald.specs.Numbers.{reportOf, stepOf, rewritingNumbers, OpenedWith, opened as opened-with, ClosedWith, closed as closed-with, Stepped, stepped, Checked, checked, unfit, Rewritten}
+use Rattle.twineherald.specs.Several.{numbersOf, Answered as AnsweredAt, answered, SteppedEach, given, shorter}
+use Rattle.twineherald.specs.laws.SeveralLaws.{numbers-one}
 use Rattle.demands.specs.Refusals.{byOpening, byWalking, byRewriting, byClosing, bySegment, Nowhere, Tabled, nowhere, byte, head, last, segment, TabledIn, Beyond, refusalIn, countsIn, Refusals}
 
 -- ---- a refusal at 0, 0
@@ -145,10 +148,6 @@ data Row (k n s : ℕ) : Type 0 where
   row-head : among n (11 ∷ 12 ∷ []) ≡ true → s ≡ 1 → Row k n s
   row-last : n ≡ 13 → s ≡ 10000 → 10000 ≤ k → Row k n s
   row-segment : among n bySegment ≡ true → 1 ≤ s → s ≤ k → Row k n s
-
-pub every : (P : ℕ → Type 0) → ((s : ℕ) → P s) → (l : List ℕ) → Every P l
-every P h [] = tt
-every P h (x ∷ l) = (h x, every P h l)
 
 unless-is : (P : ℕ → Type 0) (b : Bool) (s : ℕ) → (b ≡ false → P s) → Every P (toldUnless b s)
 unless-is P true s h = tt
@@ -388,6 +387,16 @@ walk-told b at x x′ y (walks-message v una a e k n p q) = message-told b x x�
 walk-told b at x x′ y (walks-nothing p i) = i
 walk-told b at x x′ y (walks-refused g p i) = (subst Went (sym p) (went b at), i)
 
+-- ---- with lists that are long enough
+judges-told : (v : Service) (m : List ℕ) (f : Refusal) → Judged v m (report.Refused f) → Tabled v m f
+judges-told v m f (judged x x′ e w) = checks v m x x′ f w .0
+
+walk-judges : (b : List ℕ) (at : ℕ) (f : Refusal) → Judges b at (walked.Refused f) → Nowhere byWalking f
+walk-judges b at f (judges x x′ l w) = walk-told b at x x′ (walked.Refused f) w .0
+
+message-judges : (b : List ℕ) (at a e : ℕ) (f : Refusal) → Judges b at (walked.Message a e (report.Refused f)) → TabledIn b (between b a e) f
+message-judges b at a e f (judges x x′ l w) = walk-told b at x x′ (walked.Message a e (report.Refused f)) w .0
+
 -- ---- rewriting
 abbrev Wrote : List ℕ → List ℕ → Rewriting → Type 0
 Wrote new old (rewriting.Written n) = n ≡ length new
@@ -446,6 +455,15 @@ c-told b x x′ (walked.Refused f) h g = (inl (h .0), h .1)
 c-walks : (b : List ℕ) (at : ℕ) (x x′ : Lists) (y : StepNumbers) → Stepped b at x x′ y → (y .report .number ≡ 0 → ⊥) → OnWalk b y × (x′ ≡ x)
 c-walks b at x x′ y (stepped w l e) = subst (λ (k : StepNumbers). (k .report .number ≡ 0 → ⊥) → OnWalk b k × (x′ ≡ x)) (sym e) (c-told b x x′ w (walk-told b at x x′ w l))
 
+c-each : (b ps : List ℕ) (a a′ : List (List ℕ)) (x : ℕ) → SteppedEach b ps a a′ x → (x ≡ 0 → ⊥) → (x ≡ 14) × (a′ ≡ a)
+c-each b ps a a′ x (given w e) g = absurd (g e)
+c-each b ps a a′ x (shorter l q f) g = (f, q)
+
+c-answers : (b : List ℕ) (at : ℕ) (y : StepNumbers) → AnsweredAt b at (numbersOf y) → (y .report .number ≡ 0 → ⊥) → OnWalk b y
+c-answers b at y (answered x x′ z l w q) g =
+    let e : y ≡ z = numbers-one y z q in
+    subst (OnWalk b) (sym e) (c-walks b at x x′ z w (λ h. g (ap (λ (k : StepNumbers). k .report .number) e ∙ h)) .0)
+
 c-room : (s o : List ℕ) (w : Rewriting) → rewritingOf s (length o) ≡ w → (rewritingNumbers w .number ≡ 0 → ⊥) → (among (rewritingNumbers w .number) byRewriting ≡ true) × (roomAfter s o ≡ o)
 c-room s o (rewriting.Written n) e g = absurd (g refl)
 c-room s o (rewriting.Refused f) e g = let z = rewrites s o f e in (z .0 .number, z .1)
@@ -492,16 +510,21 @@ refusals = record {
   closing = λ s c w. closed-by s w;
   checking = checks;
   check-beyond = beyond;
+  judging = judges-told;
   walking = λ b at x x′ f w. walk-told b at x x′ (walked.Refused f) w;
   walk-none = λ b at x x′ w. walk-told b at x x′ walked.Nothing w;
   walk-message = λ b at a e x x′ f w. walk-told b at x x′ (walked.Message a e (report.Refused f)) w;
   walk-beyond = λ b at a e x x′ c w. walk-told b at x x′ (walked.Message a e (report.Accepted c)) w;
+  walk-judging = walk-judges;
+  judge-message = message-judges;
   rewriting = rewrites;
   rewrite-beyond = rewrites-beyond;
   c-open = c-opens;
   c-close = c-closes;
   c-check = c-checks;
   c-walk = c-walks;
+  c-walk-each = c-each;
+  c-answer = c-answers;
   c-rewrite = c-rewrites;
   c-check-beyond = check-on;
   c-walk-beyond = walk-on;

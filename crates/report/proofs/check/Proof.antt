@@ -1,57 +1,33 @@
 -- `report::check` meets its contract. Assumes nothing.
-use Rattle.report.specs.laws.CheckLaws.{check-outright}
+use Rattle.report.specs.laws.JudgeLaws.{report-by}
 use borrow.Author.Needs.{needs}
 use Rattle.report.proofs.check.Statement.{statement}
 use Rattle.report.proofs.check.Tie as tie
 use Rattle.report.proofs.check.Reads as reads
 use Rattle.report.proofs.check.Lts as lts
-use Rattle.interchange.proofs.refuse.Reads as refuse-reads
-use Rattle.report.proofs.kind_of.Reads as kind-of-reads
-use Rattle.report.proofs.misfit_of.Reads as misfit-of-reads
-use Rattle.report.proofs.refused_outright.Reads as refused-outright-reads
-use Rattle.report.proofs.report_placed.Reads as report-placed-reads
+use Rattle.report.proofs.check_in.Reads as check-in-reads
 
-refused-outright-requires : tie.Need-refused-outright-requires
-refused-outright-requires c κs = search (check-outright, needs)
-
-refuse-requires : tie.Need-refuse-requires
-refuse-requires c κs = search (check-outright, needs)
-
-returns : tie.Need-returns
-returns c = search (check-outright, needs)
-
-kind-of-requires : tie.Need-kind-of-requires
-kind-of-requires c κs = search (check-outright, needs)
-
-misfit-of-requires : tie.Need-misfit-of-requires
-misfit-of-requires c κs = search (check-outright, needs)
-
-report-placed-requires : tie.Need-report-placed-requires
-report-placed-requires c κs = search (check-outright, needs)
+check-in-requires : tie.Need-check-in-requires
+check-in-requires c κs = search (report-by, needs)
 
 same-length : tie.Need-same-length
-same-length c = search (check-outright, needs)
+same-length c = search (report-by, needs)
 
 same-length-2 : tie.Need-same-length-2
-same-length-2 c = search (check-outright, needs)
+same-length-2 c = search (report-by, needs)
 
 same-length-3 : tie.Need-same-length-3
-same-length-3 c = search (check-outright, needs)
+same-length-3 c = search (report-by, needs)
 
-returns-2 : tie.Need-returns-2
-returns-2 c = search (check-outright, needs)
+returns : tie.Need-returns
+returns c = search (report-by, needs)
 
 pub check-spec : {M : Type 1} → statement M
 check-spec =
     tie.close
     (tie.spec
-    refused-outright-requires
-    refuse-requires
-    returns
-    kind-of-requires
-    misfit-of-requires
-    report-placed-requires
+    check-in-requires
     same-length
     same-length-2
     same-length-3
-    returns-2)
+    returns)

@@ -1,31 +1,33 @@
 -- `report::judge` meets its contract. Assumes nothing.
-use Rattle.report.specs.laws.ChecksLaws.{judged-paymul, judged-debmul}
+use Rattle.report.specs.laws.JudgeLaws.{judge-enough}
 use borrow.Author.Needs.{needs}
 use Rattle.report.proofs.judge.Statement.{statement}
 use Rattle.report.proofs.judge.Tie as tie
 use Rattle.report.proofs.judge.Reads as reads
 use Rattle.report.proofs.judge.Lts as lts
-use Rattle.advice.proofs.judge.Reads as judge-reads
-use Rattle.rules.proofs.judge.Reads as judge-reads′
+use Rattle.report.proofs.check_in.Reads as check-in-reads
 
-enum-told : tie.Need-enum-told
-enum-told c = search (judged-paymul, judged-debmul, needs)
+slice-aggregate-check-in : tie.Need-slice-aggregate-check-in
+slice-aggregate-check-in c = search (judge-enough, needs)
 
-judge-requires : tie.Need-judge-requires
-judge-requires c κs = search (judged-paymul, judged-debmul, needs)
+slice-aggregate-check-in-2 : tie.Need-slice-aggregate-check-in-2
+slice-aggregate-check-in-2 c = search (judge-enough, needs)
 
-enum-told-2 : tie.Need-enum-told-2
-enum-told-2 c = search (judged-paymul, judged-debmul, needs)
+slice-aggregate-check-in-3 : tie.Need-slice-aggregate-check-in-3
+slice-aggregate-check-in-3 c = search (judge-enough, needs)
 
-judge-requires-2 : tie.Need-judge-requires-2
-judge-requires-2 c κs = search (judged-paymul, judged-debmul, needs)
+check-in-requires : tie.Need-check-in-requires
+check-in-requires c κs = search (judge-enough, needs)
 
 returns : tie.Need-returns
-returns c = search (judged-paymul, judged-debmul, needs)
-
-returns-2 : tie.Need-returns-2
-returns-2 c = search (judged-paymul, judged-debmul, needs)
+returns c = search (judge-enough, needs)
 
 pub judge-spec : {M : Type 1} → statement M
 judge-spec =
-    tie.close (tie.spec enum-told judge-requires enum-told-2 judge-requires-2 returns returns-2)
+    tie.close
+    (tie.spec
+    slice-aggregate-check-in
+    slice-aggregate-check-in-2
+    slice-aggregate-check-in-3
+    check-in-requires
+    returns)

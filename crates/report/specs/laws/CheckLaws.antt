@@ -1,4 +1,4 @@
--- The ways through a check, each to `Reported`. Assumes nothing.
+-- The ways through judging, each to `JudgedIn`. Assumes nothing.
 use Prim.Native.Nat.{ℕ, zero, suc, _+_, _%_, _≤_, _<_}
 use native.Mathlib.Nat.{mod-eq-of-lt}
 use native.Mathlib.Omega.{arith}
@@ -26,8 +26,6 @@ use Rattle.tally.specs.Places.{passed}
 use Rattle.interchange.specs.declared.Refusal.{Refusal}
 use Rattle.interchange.specs.Messages.{endsClosed}
 use Rattle.interchange.specs.Envelope.{refusal}
-use Rattle.lent.specs.Lists.{Lists}
-use Rattle.listing.specs.Listing.{listsAfter}
 use Rattle.chart.specs.Chart.{Reading}
 use Rattle.values.specs.forms.Codes as codes
 use Rattle.chart.specs.Answer.{StuckAt}
@@ -46,13 +44,14 @@ use Rattle.message.specs.Placed.{placedOn}
 use Rattle.message.specs.Faults.{told, tellAll, leastOf}
 use Rattle.report.specs.declared.Counts.{Counts}
 use Rattle.report.specs.declared.Report.the-variants.{Accepted, Refused}
-use Rattle.report.specs.Reported.{Raw, rawOf, bareOf, Room, toldUnless, rule10, headed, asked, fits, early, Of, Lowest, offsetOf, Reported, accepted, refused, roomOf, filled}
+use Rattle.report.specs.Reported.{Raw, rawOf, bareOf, Room, toldUnless, rule10, headed, asked, fits, early, Of, Lowest, offsetOf}
+use Rattle.report.specs.forms.Judging.{JudgedIn, accepts, refuses}
 use Rattle.report.specs.laws.EarlyLaws.{early-least, early-lowest, early-none, numbers-told, late-numbers}
 use Rattle.report.specs.laws.LateLaws.{late-none, late-lowest, misfit-lowest}
 use Rattle.report.specs.laws.LeastLaws.{least-told}
 use Rattle.report.specs.laws.SmallLaws.{late-within}
 use Rattle.report.specs.laws.CountLaws.{times, lin-tags, seq-tags}
-use Rattle.report.specs.laws.FillLaws.{rows-are, placed-length, lists-over}
+use Rattle.report.specs.laws.FillLaws.{rows-are, placed-length}
 use Rattle.report.specs.laws.ClosedLaws.{Closes, closes}
 use Rattle.report.specs.forms.Checks.{endsWith, headedAt, outright, Begun, earlyFault, Late, placed, stuck, listedOrders, byteRefusal, startBy, refusalAt}
 use Rattle.report.specs.laws.UntLaws.{closed-is}
@@ -122,14 +121,8 @@ tallied v m = tallyOf v m (segmentsFrom v m 0)
 abbrev raws : Service → List ℕ → List Raw
 raws v m = map (rawOf v m) (segmentsFrom v m 0)
 
-all-true : (a b c : Bool) → a && b && c ≡ true → (a ≡ true) × (b ≡ true) × (c ≡ true)
-all-true true true true e = (refl, refl, refl)
-all-true true true false e = absurd (let z : _≡_ {A = ℕ} 0 1 = cc in omega arith)
-all-true true false c e = absurd (let z : _≡_ {A = ℕ} 0 1 = cc in omega arith)
-all-true false b c e = absurd (let z : _≡_ {A = ℕ} 0 1 = cc in omega arith)
-
 module _ (v : Service) (m : List ℕ) where
-  raws-length : length (raws v m) ≡ length (segmentsFrom v m 0)
+  pub raws-length : length (raws v m) ≡ length (segmentsFrom v m 0)
   raws-length = length-map (segmentsFrom v m 0) (rawOf v m)
 
   early-chain : (x : Room) → leastOf (tellAll (early (bareOf v m) x))
@@ -139,31 +132,31 @@ module _ (v : Service) (m : List ℕ) where
       early-least (bareOf v m) x
       ∙ rw (first-told (leb (length m) 1048576) 0, first-told (fitting v) 0, first-told (endsClosed v m) 1, first-told (headed (raws v m)) 1, first-told (leb (length (raws v m)) 9999) 10000, first-told (fits (raws v m) x) 0)
 
-  module _ (x : Lists) where
-    refuse-by : (n k o : ℕ) (f : Refusal) → f .number ≡ n → f .segment ≡ k → f .offset ≡ o → Lowest v m (roomOf x) n k → o ≡ offsetOf v m n k → Reported v m x x (Refused f)
+  module _ (x : Room) where
+    refuse-by : (n k o : ℕ) (f : Refusal) → f .number ≡ n → f .segment ≡ k → f .offset ≡ o → Lowest v m x n k → o ≡ offsetOf v m n k → JudgedIn v m x (Refused f)
     refuse-by n k o f a b c l q =
         let e : f ≡ record { number = n; segment = k; offset = o } = λ i. record { number = a i; segment = b i; offset = c i } in
-        subst (λ (g : Refusal). Reported v m x x (Refused g)) (sym e) (refused (record { number = n; segment = k; offset = o }) l q refl)
+        subst (λ (g : Refusal). JudgedIn v m x (Refused g)) (sym e) (refuses (record { number = n; segment = k; offset = o }) l q)
 
     -- 1
-    pub check-long : 1048576 < length m → (f : Refusal) → f ≡ refusal 1 → Reported v m x x (Refused f)
+    pub check-long : 1048576 < length m → (f : Refusal) → f ≡ refusal 1 → JudgedIn v m x (Refused f)
     unfolding offsetOf
     check-long h f e =
         refuse-by 1 0 0 f (ap (λ (g : Refusal). g .number) e) (ap (λ (g : Refusal). g .segment) e) (ap (λ (g : Refusal). g .offset) e)
-        (early-lowest v m (roomOf x) 1 0 (early-chain (roomOf x) ∙ rw (lt-leb (length m) 1048576 h))) refl
+        (early-lowest v m x 1 0 (early-chain x ∙ rw (lt-leb (length m) 1048576 h))) refl
 
     -- 2
-    check-unfit : length m ≤ 1048576 → fitting v ≡ false → (f : Refusal) → f ≡ refusal 2 → Reported v m x x (Refused f)
+    check-unfit : length m ≤ 1048576 → fitting v ≡ false → (f : Refusal) → f ≡ refusal 2 → JudgedIn v m x (Refused f)
     unfolding offsetOf
     check-unfit h g f e =
         refuse-by 2 0 0 f (ap (λ (g : Refusal). g .number) e) (ap (λ (g : Refusal). g .segment) e) (ap (λ (g : Refusal). g .offset) e)
-        (early-lowest v m (roomOf x) 2 0 (early-chain (roomOf x) ∙ rw (le-leb (length m) 1048576 h, g))) refl
+        (early-lowest v m x 2 0 (early-chain x ∙ rw (le-leb (length m) 1048576 h, g))) refl
 
     -- 1 and 2
-    pub check-outright : (n : ℕ) → n ≡ outright (leb (length m) 1048576) (fitting v) → (n ≡ 0 → ⊥) → (f : Refusal) → f ≡ refusal n → Reported v m x x (Refused f)
+    pub check-outright : (n : ℕ) → n ≡ outright (leb (length m) 1048576) (fitting v) → (n ≡ 0 → ⊥) → (f : Refusal) → f ≡ refusal n → JudgedIn v m x (Refused f)
     check-outright n d z f e = go (decLt 1048576 (length m)) (fitting v) refl
       where
-        go : Dec (1048576 < length m) → (b : Bool) → fitting v ≡ b → Reported v m x x (Refused f)
+        go : Dec (1048576 < length m) → (b : Bool) → fitting v ≡ b → JudgedIn v m x (Refused f)
         go (yes h) b q = check-long h f (e ∙ ap refusal (d ∙ rw (lt-leb (length m) 1048576 h)))
         go (no h) true q = let l : length m ≤ 1048576 = omega arith in absurd (z (d ∙ rw (le-leb (length m) 1048576 l, q)))
         go (no h) false q = let l : length m ≤ 1048576 = omega arith in check-unfit l q f (e ∙ ap refusal (d ∙ rw (le-leb (length m) 1048576 l, q)))
@@ -193,14 +186,14 @@ module _ (v : Service) (m : List ℕ) where
       start-offset n (suc k) e h = rw e refl
 
       -- the refusal that `refusal_at` gives
-      refuse-at : (n k : ℕ) → eqb n 10 ≡ false → 1 ≤ k → k ≤ 1048576 → Lowest v m (roomOf x) n k → (f : Refusal) → f ≡ refusalAt v m n k → Reported v m x x (Refused f)
+      refuse-at : (n k : ℕ) → eqb n 10 ≡ false → 1 ≤ k → k ≤ 1048576 → Lowest v m x n k → (f : Refusal) → f ≡ refusalAt v m n k → JudgedIn v m x (Refused f)
       refuse-at n k o lo hi l f e =
           let most = small in
           let h = start-high k in
           refuse-by n k (startBy v m k) f (ap (λ (g : Refusal). g .number) e) (ap (λ (g : Refusal). g .segment) e ∙ mod-eq-of-lt (omega arith)) (ap (λ (g : Refusal). g .offset) e ∙ mod-eq-of-lt (omega arith)) l (start-offset n k o lo)
 
       -- 10
-      pub check-byte : (z : Tally) → z ≡ tallied v m → (p : ℕ) → z .bad ≡ first.At p → (f : Refusal) → f ≡ byteRefusal v m p → Reported v m x x (Refused f)
+      pub check-byte : (z : Tally) → z ≡ tallied v m → (p : ℕ) → z .bad ≡ first.At p → (f : Refusal) → f ≡ byteRefusal v m p → JudgedIn v m x (Refused f)
       unfolding offsetOf
       check-byte z c p q f e =
           let most = small in
@@ -214,13 +207,13 @@ module _ (v : Service) (m : List ℕ) where
           refuse-by 10 (suc (passed (length m) p (segmentsFrom v m 0))) p f (ap (λ (g : Refusal). g .number) e)
           (ap (λ (g : Refusal). g .segment) e ∙ ap (λ (j : ℕ). (j + 1) % 4294967296) y ∙ mod-eq-of-lt (omega arith) ∙ omega arith)
           (ap (λ (g : Refusal). g .offset) e ∙ mod-eq-of-lt (omega arith))
-          (early-lowest v m (roomOf x) 10 (suc (passed (length m) p (segmentsFrom v m 0))) (early-chain (roomOf x) ∙ rw (le-leb (length m) 1048576 small, ready .1, w .told) (ap (fault.At 10) (omega arith))))
+          (early-lowest v m x 10 (suc (passed (length m) p (segmentsFrom v m 0))) (early-chain x ∙ rw (le-leb (length m) 1048576 small, ready .1, w .told) (ap (fault.At 10) (omega arith))))
           (sym (w .byte))
 
       module _ (z : Tally) (c : z ≡ tallied v m) (clean : z .bad ≡ first.None) where
-        quiet : leastOf (tellAll (early (bareOf v m) (roomOf x)))
-            ≡ chain true true first.None (endsClosed v m) (headed (raws v m)) (leb (length (raws v m)) 9999) (fits (raws v m) (roomOf x))
-        quiet = early-chain (roomOf x) ∙ rw (le-leb (length m) 1048576 small, ready .1, ten-none v fit m (sym (ap (λ (y : Tally). y .bad) c) ∙ clean))
+        quiet : leastOf (tellAll (early (bareOf v m) x))
+            ≡ chain true true first.None (endsClosed v m) (headed (raws v m)) (leb (length (raws v m)) 9999) (fits (raws v m) x)
+        quiet = early-chain x ∙ rw (le-leb (length m) 1048576 small, ready .1, ten-none v fit m (sym (ap (λ (y : Tally). y .bad) c) ∙ clean))
 
         segments-as : endsClosed v m ≡ true → length (raws v m) ≡ z .segments
         segments-as h = raws-length ∙ pieces-tags v m ∙ sym (closes v m h .segments) ∙ sym (ap (λ (y : Tally). y .segments) c)
@@ -230,17 +223,17 @@ module _ (v : Service) (m : List ℕ) where
           early-as = i ∙ ap₂ (λ (a b : Bool). earlyFault a b (z .segments)) (ap (λ (y : Tally). endsWith v m (y .unt)) c ∙ closed-is v m) (sym (headed-is v m))
 
           -- 11 to 13
-          pub check-early : (n k : ℕ) → e ≡ fault.At n k → (f : Refusal) → f ≡ refusalAt v m n k → Reported v m x x (Refused f)
+          pub check-early : (n k : ℕ) → e ≡ fault.At n k → (f : Refusal) → f ≡ refusalAt v m n k → JudgedIn v m x (Refused f)
           check-early n k q f g =
               let most = small in
-              let w = early-at (z .segments) (length (raws v m)) (fits (raws v m) (roomOf x)) (endsClosed v m) (headed (raws v m)) segments-as n k (sym early-as ∙ q) in
+              let w = early-at (z .segments) (length (raws v m)) (fits (raws v m) x) (endsClosed v m) (headed (raws v m)) segments-as n k (sym early-as ∙ q) in
               let hi = w .1 .few in
-              refuse-at n k (w .1 .other) (w .1 .some) (omega arith) (early-lowest v m (roomOf x) n k (quiet ∙ w .0)) f g
+              refuse-at n k (w .1 .other) (w .1 .some) (omega arith) (early-lowest v m x n k (quiet ∙ w .0)) f g
 
           module _ (q : e ≡ fault.None) where
             passes : (endsClosed v m ≡ true) × (headed (raws v m) ≡ true)
-                × (chain true true first.None (endsClosed v m) (headed (raws v m)) (leb (length (raws v m)) 9999) (fits (raws v m) (roomOf x)) ≡ numberFirst 14 (placeUnless (fits (raws v m) (roomOf x)) 0) fault.None)
-            passes = early-pass (z .segments) (length (raws v m)) (fits (raws v m) (roomOf x)) (endsClosed v m) (headed (raws v m)) segments-as (sym early-as ∙ q)
+                × (chain true true first.None (endsClosed v m) (headed (raws v m)) (leb (length (raws v m)) 9999) (fits (raws v m) x) ≡ numberFirst 14 (placeUnless (fits (raws v m) x) 0) fault.None)
+            passes = early-pass (z .segments) (length (raws v m)) (fits (raws v m) x) (endsClosed v m) (headed (raws v m)) segments-as (sym early-as ∙ q)
 
             shut : Closes v m 0
             shut = closes v m (passes .0)
@@ -260,27 +253,24 @@ module _ (v : Service) (m : List ℕ) where
             asked-as : asked (raws v m) ≡ listedOrders d (z .orders)
             asked-as = asked-is v m d of ∙ ap (listedOrders d) (lines-tags v m ∙ sym orders-are)
 
-            fits-as : fits (raws v m) (roomOf x) ≡ leb (z .segments) (length (x .rows)) && leb (z .segments) (length (x .starts)) && leb (listedOrders d (z .orders)) (length (x .totals))
+            fits-as : fits (raws v m) x ≡ leb (z .segments) (x .rows) && leb (z .segments) (x .starts) && leb (listedOrders d (z .orders)) (x .totals)
             unfolding fits
             fits-as = rw (segments-as (passes .0), asked-as)
 
-            module _ (b : Bool) (w : b ≡ leb (z .segments) (length (x .rows)) && leb (z .segments) (length (x .starts)) && leb (listedOrders d (z .orders)) (length (x .totals))) where
-              early-ends : leastOf (tellAll (early (bareOf v m) (roomOf x))) ≡ numberFirst 14 (placeUnless b 0) fault.None
+            module _ (b : Bool) (w : b ≡ leb (z .segments) (x .rows) && leb (z .segments) (x .starts) && leb (listedOrders d (z .orders)) (x .totals)) where
+              early-ends : leastOf (tellAll (early (bareOf v m) x)) ≡ numberFirst 14 (placeUnless b 0) fault.None
               early-ends = quiet ∙ passes .2 ∙ ap (λ (y : Bool). numberFirst 14 (placeUnless y 0) fault.None) (fits-as ∙ sym w)
 
               -- 14
-              pub check-room : b ≡ false → (f : Refusal) → f ≡ refusal 14 → Reported v m x x (Refused f)
+              pub check-room : b ≡ false → (f : Refusal) → f ≡ refusal 14 → JudgedIn v m x (Refused f)
               unfolding offsetOf
               check-room g f h =
                   refuse-by 14 0 0 f (ap (λ (g : Refusal). g .number) h) (ap (λ (g : Refusal). g .segment) h) (ap (λ (g : Refusal). g .offset) h)
-                  (early-lowest v m (roomOf x) 14 0 (early-ends ∙ rw g)) refl
+                  (early-lowest v m x 14 0 (early-ends ∙ rw g)) refl
 
               module _ (g : b ≡ true) where
-                none-early : tellAll (early (bareOf v m) (roomOf x)) ≡ []
-                none-early = early-none v m (roomOf x) (early-ends ∙ rw g)
-
-                room : (leb (z .segments) (length (x .rows)) ≡ true) × (leb (z .segments) (length (x .starts)) ≡ true) × (leb (listedOrders d (z .orders)) (length (x .totals)) ≡ true)
-                room = all-true (leb (z .segments) (length (x .rows))) (leb (z .segments) (length (x .starts))) (leb (listedOrders d (z .orders)) (length (x .totals))) (sym w ∙ g)
+                none-early : tellAll (early (bareOf v m) x) ≡ []
+                none-early = early-none v m x (early-ends ∙ rw g)
 
                 abbrev rows : List ℕ
                 rows = rowsOf (tableOf d) (tagsOf v m)
@@ -288,7 +278,7 @@ module _ (v : Service) (m : List ℕ) where
                 module _ (l : Fault) where
                   -- 17 to 31
                   late-placed : Reading (chartFor d) (tagsOf v m) rows → l ≡ leastOf (tellAll (rulesFor d (segsOf v m rows)))
-                      → (n k : ℕ) → l ≡ fault.At n k → (f : Refusal) → f ≡ refusalAt v m n k → Reported v m x x (Refused f)
+                      → (n k : ℕ) → l ≡ fault.At n k → (f : Refusal) → f ≡ refusalAt v m n k → JudgedIn v m x (Refused f)
                   late-placed rd h n k p f y =
                       let most = small in
                       let u = sym h ∙ p in
@@ -299,11 +289,11 @@ module _ (v : Service) (m : List ℕ) where
                       let a = rows-are (tableOf d) v m in
                       let few = tags-few v m 0 in
                       refuse-at n k (ne-eqb n 10 (λ (j : n ≡ 10). omega arith)) (within .0) (omega arith)
-                      (late-lowest d v m of (roomOf x) rows rd none-early n k u) f y
+                      (late-lowest d v m of x rows rd none-early n k u) f y
 
                   -- 16
                   late-stuck : (p : ℕ) → StuckAt (tableOf d) v m p → l ≡ fault.At 16 (passed (length m) p (segmentsFrom v m 0) % 4294967295 + 1)
-                      → (n k : ℕ) → l ≡ fault.At n k → (f : Refusal) → f ≡ refusalAt v m n k → Reported v m x x (Refused f)
+                      → (n k : ℕ) → l ≡ fault.At n k → (f : Refusal) → f ≡ refusalAt v m n k → JudgedIn v m x (Refused f)
                   late-stuck p a h n k y f e =
                       let most = small in
                       let u = unt-stuck (tableOf d) (sound d) v m p a (shut .before) (shut .last) in
@@ -317,9 +307,9 @@ module _ (v : Service) (m : List ℕ) where
                       let n16 : 16 ≡ n = cc in
                       let kj : j + 1 ≡ k = cc in
                       refuse-at n k (subst (λ (i : ℕ). eqb i 10 ≡ false) n16 refl) (omega arith) (omega arith)
-                      (subst (λ (i : ℕ). Lowest v m (roomOf x) i k) n16 (subst (λ (i : ℕ). Lowest v m (roomOf x) 16 i) kj (misfit-lowest d v m of (roomOf x) j fm none-early))) f e
+                      (subst (λ (i : ℕ). Lowest v m x i k) n16 (subst (λ (i : ℕ). Lowest v m x 16 i) kj (misfit-lowest d v m of x j fm none-early))) f e
 
-                  -- the counts that `judge` is told are the message's
+                  -- the counts that `rule_fault` is told are the message's
                   counted : Reading (chartFor d) (tagsOf v m) rows → l ≡ leastOf (tellAll (means d .rules (z .segments) (z .orders) (placedOn (tableOf d) v m)))
                       → l ≡ leastOf (tellAll (rulesFor d (segsOf v m rows)))
                   counted rd h =
@@ -327,23 +317,17 @@ module _ (v : Service) (m : List ℕ) where
                       ∙ ap (λ (k : ℕ). leastOf (tellAll (means d .rules k (z .orders) (segsOf v m rows)))) (segments-are ∙ sym (placed-length (tableOf d) v m))
                       ∙ ap (λ (n : ℕ). leastOf (tellAll (means d .rules (length (segsOf v m rows)) n (segsOf v m rows)))) (orders-are ∙ sym (lin-tags v m d (rd .placement)))
 
-                  pub check-late : Late d v m (z .segments) (z .orders) l → (n k : ℕ) → l ≡ fault.At n k → (f : Refusal) → f ≡ refusalAt v m n k → Reported v m x x (Refused f)
+                  pub check-late : Late d v m (z .segments) (z .orders) l → (n k : ℕ) → l ≡ fault.At n k → (f : Refusal) → f ≡ refusalAt v m n k → JudgedIn v m x (Refused f)
                   check-late (placed rd h) = late-placed rd (counted rd h)
                   check-late (stuck p a h) = late-stuck p a h
 
                   -- accepted
-                  module _ (x′ : Lists) (x′-is : x′ ≡ listsAfter (tableOf d) v m (z .segments) (listedOrders d (z .orders)) x) where
-                    filled-by : Reading (chartFor d) (tagsOf v m) rows → x′ ≡ filled d v m rows x
-                    filled-by rd =
-                        let e = ap (listedOrders d) (orders-are ∙ sym (lin-tags v m d (rd .placement))) in
-                        x′-is ∙ lists-over v m d (z .segments) (listedOrders d (z .orders)) x segments-are (leb-true _ _ (room .0)) (leb-true _ _ (room .1)) (leb-true _ _ (room .2)) small (rd .placement) e
+                  done-by : Late d v m (z .segments) (z .orders) l → l ≡ fault.None → (n : Counts) → n ≡ record { segments = z .segments; orders = z .orders; payments = z .payments } → JudgedIn v m x (Accepted n)
+                  done-by (stuck p a h) y n k = absurd (not-none 16 _ (sym h ∙ y))
+                  done-by (placed rd h) y n k =
+                      let e = orders-are ∙ sym (lin-tags v m d (rd .placement)) in
+                      accepts n d of rows rd (late-none d v m of x rows rd none-early (sym (counted rd h) ∙ y))
+                      (k ∙ rw (segments-are ∙ sym (placed-length (tableOf d) v m), e, payments-are ∙ sym (seq-tags v m d (rd .placement))))
 
-                    done-by : Late d v m (z .segments) (z .orders) l → l ≡ fault.None → (n : Counts) → n ≡ record { segments = z .segments; orders = z .orders; payments = z .payments } → Reported v m x x′ (Accepted n)
-                    done-by (stuck p a h) y n k = absurd (not-none 16 _ (sym h ∙ y))
-                    done-by (placed rd h) y n k =
-                        let e = orders-are ∙ sym (lin-tags v m d (rd .placement)) in
-                        accepted n d of rows rd (late-none d v m of (roomOf x) rows rd none-early (sym (counted rd h) ∙ y))
-                        (k ∙ rw (segments-are ∙ sym (placed-length (tableOf d) v m), e, payments-are ∙ sym (seq-tags v m d (rd .placement)))) (filled-by rd)
-
-                    pub check-done : Late d v m (z .segments) (z .orders) l → l ≡ fault.None → Reported v m x x′ (Accepted (record { segments = z .segments; orders = z .orders; payments = z .payments }))
-                    check-done a y = done-by a y (record { segments = z .segments; orders = z .orders; payments = z .payments }) refl
+                  pub check-done : Late d v m (z .segments) (z .orders) l → l ≡ fault.None → JudgedIn v m x (Accepted (record { segments = z .segments; orders = z .orders; payments = z .payments }))
+                  check-done a y = done-by a y (record { segments = z .segments; orders = z .orders; payments = z .payments }) refl

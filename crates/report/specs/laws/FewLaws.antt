@@ -1,12 +1,11 @@
 -- The counts of an accepted message are at most 9,999. Assumes nothing.
-use Prim.Native.Nat.{ℕ, suc, _≤_, _<_}
+use Prim.Native.Nat.{ℕ, suc, _≤_}
 use native.Mathlib.Omega.{arith}
-use native.Mathlib.Decide.{decLt}
 use mathlib.Core.Path.{_≡_, ap}
-use mathlib.Core.List.{List, [], _∷_, _++_, map}
+use mathlib.Core.List.{List, [], _∷_}
 use mathlib.Core.Bool.{Bool, true, false}
 use lib.ListN.{length, length-map}
-use borrow.Author.Tests.{lt-leb}
+use borrow.Author.Tests.{leb-true}
 use Rattle.service.specs.declared.Service.{Service}
 use Rattle.service.specs.Tests.{if}
 use Rattle.segments.specs.SegmentList.{segmentsFrom, startsOf}
@@ -14,11 +13,11 @@ use Rattle.lent.specs.Lists.{Lists}
 use Rattle.chart.specs.laws.TagsLaws.{same-count}
 use Rattle.message.specs.Segs.{Seg, segsFrom, segsOf, those, onRow}
 use Rattle.message.specs.Kinds.{means}
-use Rattle.message.specs.Faults.{Told, told, tell, tellAll}
 use Rattle.report.specs.declared.Counts.{Counts}
 use Rattle.report.specs.declared.Report.{Report}
 use Rattle.report.specs.declared.Report.the-variants as report
-use Rattle.report.specs.Reported.{rawOf, Room, early, In, here, there, Applies, soon, roomOf, Reported, accepted, refused}
+use Rattle.report.specs.Reported.{rawOf, bareOf, roomOf, Reported, accepted, refused}
+use Rattle.report.specs.laws.FreeLaws.{free-few}
 use Rattle.report.specs.laws.PieceLaws.{pieces-tags}
 use Rattle.report.specs.forms.Few.{Few, FewIn, few, no-counts}
 
@@ -37,37 +36,10 @@ few-those t (s ∷ l) = go (t s) (few-those t l)
     go true h = omega arith
     go false h = omega arith
 
--- ---- 13 applies to more segments
-in-right : (a : Told) (l k : List Told) → In a k → In a (l ++ k)
-in-right a [] k i = i
-in-right a (b ∷ l) k i = there (in-right a l k i)
-
-told-later : (a : Told) (n : ℕ) (ps : List ℕ) (rs : List (ℕ × List ℕ)) → In a (tellAll rs) → In a (tellAll ((n, ps) ∷ rs))
-unfolding tellAll
-told-later a n ps rs i = in-right a (tell n ps) (tellAll rs) i
-
-told-here : (n s : ℕ) (rs : List (ℕ × List ℕ)) → In (told n s) (tellAll ((n, s ∷ []) ∷ rs))
-unfolding tellAll tell
-told-here n s rs = here
-
-module _ (v : Service) (m : List ℕ) (x : Room) where
-  many : 9999 < length (segmentsFrom v m 0) → Applies v m x 13 10000
-  unfolding early
-  many h =
-      let e : length (map (rawOf v m) (segmentsFrom v m 0)) ≡ length (segmentsFrom v m 0) = length-map (segmentsFrom v m 0) (rawOf v m) in
-      let g : 9999 < length (map (rawOf v m) (segmentsFrom v m 0)) = omega arith in
-      soon (told-later _ _ _ _ (told-later _ _ _ _ (told-later _ _ _ _ (told-later _ _ _ _ (told-later _ _ _ _ (rw (lt-leb (length (map (rawOf v m) (segmentsFrom v m 0))) 9999 g) (told-here 13 10000 _)))))))
-
-  few-pieces : ((n k : ℕ) → Applies v m x n k → ⊥) → length (segmentsFrom v m 0) ≤ 9999
-  few-pieces free = go (decLt 9999 (length (segmentsFrom v m 0)))
-    where
-      go : Dec (9999 < length (segmentsFrom v m 0)) → length (segmentsFrom v m 0) ≤ 9999
-      go (yes h) = absurd (free 13 10000 (many h))
-      go (no h) = omega arith
-
 pub report-few : (v : Service) (m : List ℕ) (x x′ : Lists) (y : Report) → Reported v m x x′ y → FewIn y
 report-few v m x x′ y (accepted c k o rows a none e p) =
-    let h = few-pieces v m (roomOf x) none in
+    let g = leb-true (length (bareOf v m .segments)) 9999 (free-few v m (roomOf x) none) in
+    let h = length-map (segmentsFrom v m 0) (rawOf v m) in
     let i = few-segs v m 1 rows (startsOf v m) in
     let j = same-count v m 0 in
     let w = pieces-tags v m in

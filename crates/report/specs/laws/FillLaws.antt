@@ -1,7 +1,7 @@
 -- What an accepted message leaves in the lists: the rows, starts and totals of its reading, all of them. Assumes nothing.
 use Prim.Native.Nat.{ℕ, suc, _≤_}
 use native.Mathlib.Omega.{arith}
-use mathlib.Core.Path.{_≡_, refl, sym, ap, ap₂, _∙_}
+use mathlib.Core.Path.{_≡_, refl, sym, ap, _∙_}
 use mathlib.Core.List.{List, [], _∷_, map}
 use lib.ListN.{length, take, length-map}
 use lib.Seq.{take-all}
@@ -21,18 +21,40 @@ use Rattle.kinds.specs.declared.Kind.{Kind}
 use Rattle.kinds.specs.declared.Kind.the-variants.{Paymul, Debmul}
 use Rattle.kinds.specs.Kinds.{tableOf}
 use Rattle.paymul.specs.Table.{PAYMUL}
+use Rattle.debmul.specs.Table.{DEBMUL}
 use Rattle.chart.proofs.Guide.{rows-length}
 use Rattle.message.specs.Segs.{segsFrom, segsOf, those, MOA5, is}
 use Rattle.message.specs.Rules.{worth, amount, totalsOf}
 use Rattle.message.specs.Kinds.{chartFor, orderCount, totalsFor}
+use Rattle.interchange.specs.declared.Refusal.{Refusal}
+use Rattle.report.specs.declared.Counts.{Counts}
+use Rattle.report.specs.declared.Report.{Report}
+use Rattle.report.specs.declared.Report.the-variants.{Accepted, Refused}
 use Rattle.report.specs.Reported.{filled}
-use Rattle.report.specs.forms.Checks.{listedOrders, Begun}
+use Rattle.report.specs.forms.Checks.{kindAt, listedOrders}
+use Rattle.report.specs.forms.Judging.{listsOf, listsBy}
 use Rattle.report.specs.laws.CountLaws.{rows-few, segs-times}
 use Rattle.report.specs.laws.TotalLaws.{own-moas}
 
--- the table is that of the kind
-pub lists-kind : (c : Kind) (t : Table) (v : Service) (m : List ℕ) → Begun c t v m → (n o k : ℕ) → k ≡ listedOrders c o → (x x′ : Lists) → x′ ≡ listsAfter t v m n k x → x′ ≡ listsAfter (tableOf c) v m n (listedOrders c o) x
-lists-kind c t v m b n o k q x x′ h = h ∙ ap₂ (λ (u : Table) (j : ℕ). listsAfter u v m n j x) (b .chart) q
+-- the lists of each kind, with its table
+module _ (v : Service) (m : List ℕ) (c : Counts) (x x′ : Lists) where
+  pub lists-order : (t : Table) → t ≡ PAYMUL → x′ ≡ listsAfter t v m (c .segments) (c .orders) x → x′ ≡ listsOf Paymul v m c x
+  unfolding listsOf
+  lists-order t e h = h ∙ ap (λ (u : Table). listsAfter u v m (c .segments) (c .orders) x) e
+
+  pub lists-advice : (t : Table) → t ≡ DEBMUL → x′ ≡ listsAfter t v m (c .segments) 0 x → x′ ≡ listsOf Debmul v m c x
+  unfolding listsOf
+  lists-advice t e h = h ∙ ap (λ (u : Table). listsAfter u v m (c .segments) 0 x) e
+
+  pub lists-kind : (k d : Kind) → k ≡ d → x′ ≡ listsOf d v m c x → x′ ≡ listsOf k v m c x
+  lists-kind k d e h = h ∙ sym (ap (λ (i : Kind). listsOf i v m c x) e)
+
+module _ (v : Service) (m : List ℕ) (r : Report) (x : Lists) where
+  pub lists-accepted : (c : Counts) → r ≡ Accepted c → (k : Kind) → k ≡ kindAt v m → (x′ : Lists) → x′ ≡ listsOf k v m c x → x′ ≡ listsBy v m r x
+  lists-accepted c e k q x′ h = h ∙ ap (λ (i : Kind). listsOf i v m c x) q ∙ sym (ap (λ (y : Report). listsBy v m y x) e)
+
+  pub lists-refused : (f : Refusal) → r ≡ Refused f → x ≡ listsBy v m r x
+  lists-refused f e = sym (ap (λ (y : Report). listsBy v m y x) e)
 
 segs-length : (v : Service) (m : List ℕ) (n : ℕ) (rs is : List ℕ) → length rs ≡ length is → length (segsFrom v m n rs is) ≡ length rs
 unfolding segsFrom

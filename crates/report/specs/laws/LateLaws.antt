@@ -1,4 +1,4 @@
--- A placed message of a kind, to which no early fault applies: what `judge` gives is the lowest fault that applies, and none is given exactly if none applies. Assumes nothing.
+-- A placed message of a kind, to which no early fault applies: what `rule_fault` gives is the lowest fault that applies, and none is given exactly if none applies. Assumes nothing.
 use Prim.Native.Nat.{ℕ, suc, _+_, _≤_, _<_}
 use mathlib.Core.Path.{_≡_, refl, sym, subst}
 use mathlib.Core.Logic.{_⊎_, inl, inr}

@@ -10,6 +10,10 @@ abbrev pub Every : (ℕ → Type 0) → List ℕ → Type 0
 Every P [] = Unit {0}
 Every P (x ∷ l) = P x × Every P l
 
+pub every : (P : ℕ → Type 0) → ((s : ℕ) → P s) → (l : List ℕ) → Every P l
+every P h [] = tt
+every P h (x ∷ l) = (h x, every P h l)
+
 pub every-map : (P Q : ℕ → Type 0) → ((x : ℕ) → P x → Q x) → (l : List ℕ) → Every P l → Every Q l
 every-map P Q f [] h = tt
 every-map P Q f (x ∷ l) h = (f x (h .0), every-map P Q f l (h .1))

@@ -25,13 +25,10 @@ use Rattle.report.specs.declared.Report.{Report}
 use Rattle.report.specs.declared.Report.the-variants as report
 use Rattle.report.specs.Reported.{Reported}
 use Rattle.report.specs.laws.ReportedLaws.{one-report}
-use Rattle.report.specs.forms.Few.{Few, FewIn}
-use Rattle.report.specs.laws.FewLaws.{report-few}
+use Rattle.report.specs.forms.Few.{Few}
 use Rattle.walk.specs.declared.Walked.{Walked}
 use Rattle.walk.specs.declared.Walked.the-variants as walk
-use Rattle.walk.specs.Walks.{Walks, walks-message, walks-nothing, walks-refused}
 use Rattle.walk.specs.laws.WalksLaws.{one-walk}
-use Rattle.walk.specs.laws.PlaceLaws.{walk-small}
 use Rattle.rewrite.specs.declared.Rewriting.{Rewriting}
 use Rattle.rewrite.specs.declared.Rewriting.the-variants as rewrite
 use Rattle.rewrite.specs.Plain.{rewritingOf, roomAfter}
@@ -82,32 +79,15 @@ module _ (w : Report) (x : ReportNumbers) where
   pub report-refused : (c : Refusal) → w ≡ report.Refused c → x ≡ refusedOf c → x ≡ reportOf w
   report-refused c e f = f ∙ sym (ap reportOf e)
 
-module _ (b : List ℕ) (at : ℕ) (x x′ : Lists) (w : Walked) (l : Walks b at x x′ w) where
-  -- a message that was found begins and ends within 1,048,576 bytes, and its counts are few
-  module _ (a e : ℕ) (z : Report) (q : w ≡ walk.Message a e z) where
-    pub start-small : a ≤ 1048576
-    start-small = let p = walk-small b at x x′ w l a e z q in omega arith
+module _ (w : Walked) (k : StepNumbers) (y : ReportNumbers) where
+  pub step-message : (a e : ℕ) (z : Report) → w ≡ walk.Message a e z → y ≡ reportOf z → k ≡ stepWith 1 a e y → k ≡ stepOf w
+  step-message a e z q g f = f ∙ ap (stepWith 1 a e) g ∙ sym (ap stepOf q)
 
-    pub end-small : e ≤ 1048576
-    end-small = let p = walk-small b at x x′ w l a e z q in omega arith
+  pub step-nothing : w ≡ walk.Nothing → y ≡ nothingOf → k ≡ stepWith 0 0 0 y → k ≡ stepOf w
+  step-nothing q g f = f ∙ ap (stepWith 0 0 0) g ∙ sym (ap stepOf q)
 
-    pub walk-few : FewIn z
-    walk-few = few-by w l q
-      where
-        few-by : (k : Walked) → Walks b at x x′ k → k ≡ walk.Message a e z → FewIn z
-        few-by k (walks-message v una c d y n p r) g = subst FewIn (let i : y ≡ z = cc in i) (report-few v _ x x′ y r)
-        few-by k (walks-nothing p r) g = absurd (let i : _≡_ {A = ℕ} 0 1 = cc in omega arith)
-        few-by k (walks-refused f p r) g = absurd (let i : _≡_ {A = ℕ} 0 1 = cc in omega arith)
-
-  module _ (k : StepNumbers) (y : ReportNumbers) where
-    pub step-message : (a e : ℕ) (z : Report) → w ≡ walk.Message a e z → y ≡ reportOf z → k ≡ stepWith 1 a e y → Stepped b at x x′ k
-    step-message a e z q g f = stepped w l (f ∙ ap (stepWith 1 a e) g ∙ sym (ap stepOf q))
-
-    pub step-nothing : w ≡ walk.Nothing → y ≡ nothingOf → k ≡ stepWith 0 0 0 y → Stepped b at x x′ k
-    step-nothing q g f = stepped w l (f ∙ ap (stepWith 0 0 0) g ∙ sym (ap stepOf q))
-
-    pub step-refused : (c : Refusal) → w ≡ walk.Refused c → y ≡ refusedOf c → k ≡ stepWith 0 0 0 y → Stepped b at x x′ k
-    step-refused c q g f = stepped w l (f ∙ ap (stepWith 0 0 0) g ∙ sym (ap stepOf q))
+  pub step-refused : (c : Refusal) → w ≡ walk.Refused c → y ≡ refusedOf c → k ≡ stepWith 0 0 0 y → k ≡ stepOf w
+  step-refused c q g f = f ∙ ap (stepWith 0 0 0) g ∙ sym (ap stepOf q)
 
 module _ (h m : List ℕ) (k : Characters) (c : k ≡ charactersOf h) where
   pub check-fit : (v : Service) (una : ℕ) → k ≡ Fit v una → (x x′ : Lists) (w : Report) → Reported v m x x′ w → (y : ReportNumbers) → y ≡ reportOf w → Checked h m x x′ y

@@ -1,63 +1,71 @@
 -- `walk::walk` meets its contract. Assumes nothing.
-use Rattle.walk.specs.laws.WalksLaws.{walk-long, walk-fit, walk-unfit}
+use Rattle.walk.specs.laws.SeeksLaws.{part-order, part-within}
+use Rattle.walk.specs.laws.WalksLaws.{walk-message, walk-nothing, walk-refused}
 use borrow.Author.Needs.{needs}
 use Rattle.walk.proofs.walk.Statement.{statement}
 use Rattle.walk.proofs.walk.Tie as tie
 use Rattle.walk.proofs.walk.Reads as reads
 use Rattle.walk.proofs.walk.Lts as lts
-use Rattle.interchange.proofs.refuse.Reads as refuse-reads
-use Rattle.service.proofs.characters_of.Reads as characters-of-reads
-use Rattle.walk.proofs.walk_with.Reads as walk-with-reads
+use Rattle.report.proofs.check.Reads as check-reads
+use Rattle.walk.proofs.seek.Reads as seek-reads
 
-refuse-requires : tie.Need-refuse-requires
-refuse-requires c κs = search (walk-long, walk-fit, walk-unfit, needs)
+seek-requires : tie.Need-seek-requires
+seek-requires c κs = search (part-order, part-within, walk-message, walk-nothing, walk-refused, needs)
 
-returns : tie.Need-returns
-returns c = search (walk-long, walk-fit, walk-unfit, needs)
+enum-known-f : tie.Need-enum-known-f
+enum-known-f c = search (part-order, part-within, walk-message, walk-nothing, walk-refused, needs)
 
-characters-of-requires : tie.Need-characters-of-requires
-characters-of-requires c κs = search (walk-long, walk-fit, walk-unfit, needs)
+sub-check : tie.Need-sub-check
+sub-check c = search (part-order, part-within, walk-message, walk-nothing, walk-refused, needs)
 
-enum-known-c : tie.Need-enum-known-c
-enum-known-c c = search (walk-long, walk-fit, walk-unfit, needs)
+part-check-start : tie.Need-part-check-start
+part-check-start c = search (part-order, part-within, walk-message, walk-nothing, walk-refused, needs)
 
-walk-with-requires : tie.Need-walk-with-requires
-walk-with-requires c κs = search (walk-long, walk-fit, walk-unfit, needs)
+part-check-end : tie.Need-part-check-end
+part-check-end c = search (part-order, part-within, walk-message, walk-nothing, walk-refused, needs)
+
+check-requires : tie.Need-check-requires
+check-requires c κs = search (part-order, part-within, walk-message, walk-nothing, walk-refused, needs)
 
 enum-told : tie.Need-enum-told
-enum-told c = search (walk-long, walk-fit, walk-unfit, needs)
+enum-told c = search (part-order, part-within, walk-message, walk-nothing, walk-refused, needs)
 
-refuse-requires-2 : tie.Need-refuse-requires-2
-refuse-requires-2 c κs = search (walk-long, walk-fit, walk-unfit, needs)
+enum-known-f-2 : tie.Need-enum-known-f-2
+enum-known-f-2 c = search (part-order, part-within, walk-message, walk-nothing, walk-refused, needs)
 
 same-length : tie.Need-same-length
-same-length c = search (walk-long, walk-fit, walk-unfit, needs)
+same-length c = search (part-order, part-within, walk-message, walk-nothing, walk-refused, needs)
 
 same-length-2 : tie.Need-same-length-2
-same-length-2 c = search (walk-long, walk-fit, walk-unfit, needs)
+same-length-2 c = search (part-order, part-within, walk-message, walk-nothing, walk-refused, needs)
 
 same-length-3 : tie.Need-same-length-3
-same-length-3 c = search (walk-long, walk-fit, walk-unfit, needs)
+same-length-3 c = search (part-order, part-within, walk-message, walk-nothing, walk-refused, needs)
+
+returns : tie.Need-returns
+returns c = search (part-order, part-within, walk-message, walk-nothing, walk-refused, needs)
 
 returns-2 : tie.Need-returns-2
-returns-2 c = search (walk-long, walk-fit, walk-unfit, needs)
+returns-2 c = search (part-order, part-within, walk-message, walk-nothing, walk-refused, needs)
 
 returns-3 : tie.Need-returns-3
-returns-3 c = search (walk-long, walk-fit, walk-unfit, needs)
+returns-3 c = search (part-order, part-within, walk-message, walk-nothing, walk-refused, needs)
 
 pub walk-spec : {M : Type 1} → statement M
 walk-spec =
     tie.close
     (tie.spec
-    refuse-requires
-    returns
-    characters-of-requires
-    enum-known-c
-    walk-with-requires
+    seek-requires
+    enum-known-f
+    sub-check
+    part-check-start
+    part-check-end
+    check-requires
     enum-told
-    refuse-requires-2
+    enum-known-f-2
     same-length
     same-length-2
     same-length-3
+    returns
     returns-2
     returns-3)

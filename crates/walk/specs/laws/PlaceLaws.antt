@@ -37,12 +37,6 @@ module _ (v : Service) (s : List ℕ) (at : ℕ) (k : Found) (c : k ≡ foundFro
   found-part : Part s at a e
   found-part = part-of s at k (subst (Within s at) (sym c) (found-within v s at)) a e q
 
-  pub part-order : a ≤ e
-  part-order = let p = found-part in omega arith
-
-  pub part-within : e ≤ length s
-  part-within = found-part .within
-
 -- ---- a message that a step of the walk finds: further on, within the bytes, which are at most 1,048,576
 pub record Small (s : List ℕ) (at a e : ℕ) : Type 0 where
   pub after : at ≤ a

@@ -1,67 +1,51 @@
--- The ways through a step of the walk, and that no second answer meets `Walks`. Assumes nothing.
-use Prim.Native.Nat.{ℕ, _-_, _≤_, _<_}
+-- A step of the walk from what was found, and that no second answer meets `Walks`. Assumes nothing.
+use Prim.Native.Nat.{ℕ, _-_}
 use native.Mathlib.Omega.{arith}
-use mathlib.Core.Path.{_≡_, refl, sym, ap, _∙_, subst}
+use mathlib.Core.Path.{_≡_, refl, sym, _∙_, subst}
 use mathlib.Core.List.{List}
-use lib.ListN.{length, take, drop}
+use lib.ListN.{take, drop}
 use Rattle.service.specs.declared.Service.{Service}
-use Rattle.service.specs.declared.Characters.{Characters}
-use Rattle.service.specs.declared.Characters.the-variants.{Fit, Unfit}
-use Rattle.service.specs.Service.{charactersOf}
+use Rattle.service.specs.declared.Characters.the-variants.{Fit}
 use Rattle.interchange.specs.declared.Refusal.{Refusal}
-use Rattle.interchange.specs.declared.Found.{Found}
-use Rattle.interchange.specs.declared.Found.the-variants as found
-use Rattle.interchange.specs.Messages.{foundFrom}
-use Rattle.interchange.specs.Envelope.{refusal}
 use Rattle.lent.specs.Lists.{Lists, left}
 use Rattle.report.specs.declared.Report.{Report}
 use Rattle.report.specs.Reported.{Reported}
 use Rattle.report.specs.laws.ReportedLaws.{one-report}
+use Rattle.walk.specs.declared.Sought.{Sought}
+use Rattle.walk.specs.declared.Sought.the-variants as sought
 use Rattle.walk.specs.declared.Walked.{Walked}
 use Rattle.walk.specs.declared.Walked.the-variants as walked
-use Rattle.walk.specs.Frame.{message, nothing, refused, stepAt, stepWith, stepFrom}
-use Rattle.walk.specs.laws.FrameLaws.{step-past, step-message, step-nothing, step-unfinished, step-long, step-named, step-unfit}
-use Rattle.walk.specs.Walks.{between, Walks, walks-message, walks-nothing, walks-refused, WalksWith, with-message, with-nothing, with-refused}
+use Rattle.walk.specs.Frame.{message, nothing, refused, stepFrom}
+use Rattle.walk.specs.Walks.{between, Walks, walks-message, walks-nothing, walks-refused}
+use Rattle.walk.specs.forms.Sought.{Seeks, seeks-message, seeks-nothing, seeks-refused}
 
-module _ (v : Service) (s : List ℕ) (at : ℕ) (x : Lists) where
-  pub finds-past : length s < at → (f : Refusal) → f ≡ refusal 8 → WalksWith v s at x x (walked.Refused f)
-  finds-past h f e = with-refused f (step-past v s at h f e) refl
-
-  module _ (h : at ≤ length s) (k : Found) (c : k ≡ foundFrom v s at) where
-    pub finds-message : (a e : ℕ) → k ≡ found.Message a e → (x′ : Lists) (y : Report) → Reported v (take (e - a) (drop a s)) x x′ y → WalksWith v s at x x′ (walked.Message a e y)
-    finds-message a e q x′ y w = with-message a e y (step-message v s at h k c a e q) w
-
-    pub finds-nothing : k ≡ found.Nothing → WalksWith v s at x x walked.Nothing
-    finds-nothing q = with-nothing (step-nothing v s at h k c q) refl
-
-    pub finds-unfinished : k ≡ found.Unfinished → (f : Refusal) → f ≡ refusal 4 → WalksWith v s at x x (walked.Refused f)
-    finds-unfinished q f e = with-refused f (step-unfinished v s at h k c q f e) refl
-
+-- ---- a step is what was found, checked
 module _ (s : List ℕ) (at : ℕ) (x : Lists) where
-  pub walk-long : 1048576 < length s → (f : Refusal) → f ≡ refusal 1 → Walks s at x x (walked.Refused f)
-  walk-long h f e = walks-refused f (step-long s at h f e) refl
+  pub walk-message : (k : Sought) → Seeks s at k → (v : Service) (a e : ℕ) → k ≡ sought.Message v a e → (x′ : Lists) (y : Report) → Reported v (take (e - a) (drop a s)) x x′ y → Walks s at x x′ (walked.Message a e y)
+  walk-message k (seeks-message u una b c n p) v a e q x′ y w =
+      let m : message a e ≡ stepFrom s at = let i : b ≡ a = cc in let j : c ≡ e = cc in rw (← i, ← j) p in
+      walks-message v una a e y (let i : u ≡ v = cc in n ∙ rw i) m w
+  walk-message k (seeks-nothing p) v a e q x′ y w = absurd (let z : _≡_ {A = ℕ} 0 1 = cc in omega arith)
+  walk-message k (seeks-refused f p) v a e q x′ y w = absurd (let z : _≡_ {A = ℕ} 0 1 = cc in omega arith)
 
-  module _ (h : length s ≤ 1048576) (k : Characters) (c : k ≡ charactersOf s) where
-    pub walk-unfit : k ≡ Unfit → (f : Refusal) → f ≡ refusal 2 → Walks s at x x (walked.Refused f)
-    walk-unfit q f e = walks-refused f (step-unfit s at h k c q f e) refl
+  pub walk-nothing : (k : Sought) → Seeks s at k → k ≡ sought.Nothing → Walks s at x x walked.Nothing
+  walk-nothing k (seeks-message u una b c n p) q = absurd (let z : _≡_ {A = ℕ} 0 1 = cc in omega arith)
+  walk-nothing k (seeks-nothing p) q = walks-nothing p refl
+  walk-nothing k (seeks-refused f p) q = absurd (let z : _≡_ {A = ℕ} 0 1 = cc in omega arith)
 
-    module _ (v : Service) (una : ℕ) (q : k ≡ Fit v una) (x′ : Lists) where
-      step-is : stepAt v s at ≡ stepFrom s at
-      step-is = sym (step-named s at h k c ∙ ap (stepWith s at) q)
-
-      pub walk-fit : (w : Walked) → WalksWith v s at x x′ w → Walks s at x x′ w
-      walk-fit w (with-message a e y p z) = walks-message v una a e y (sym c ∙ q) (p ∙ step-is) z
-      walk-fit w (with-nothing p a) = walks-nothing (p ∙ step-is) a
-      walk-fit w (with-refused f p a) = walks-refused f (p ∙ step-is) a
+  pub walk-refused : (k : Sought) → Seeks s at k → (f : Refusal) → k ≡ sought.Refused f → Walks s at x x (walked.Refused f)
+  walk-refused k (seeks-message u una b c n p) f q = absurd (let z : _≡_ {A = ℕ} 0 1 = cc in omega arith)
+  walk-refused k (seeks-nothing p) f q = absurd (let z : _≡_ {A = ℕ} 0 1 = cc in omega arith)
+  walk-refused k (seeks-refused g p) f q = walks-refused f (let i : g ≡ f = cc in rw (← i) p) refl
 
 -- ---- no second answer
-other : (a e : ℕ) → message a e ≡ nothing → ⊥
+pub other : (a e : ℕ) → message a e ≡ nothing → ⊥
 other a e p = let z : _≡_ {A = ℕ} 0 1 = cc in omega arith
 
-other′ : (a e : ℕ) (f : Refusal) → message a e ≡ refused f → ⊥
+pub other′ : (a e : ℕ) (f : Refusal) → message a e ≡ refused f → ⊥
 other′ a e f p = let z : _≡_ {A = ℕ} 0 1 = cc in omega arith
 
-other″ : (f : Refusal) → nothing ≡ refused f → ⊥
+pub other″ : (f : Refusal) → nothing ≡ refused f → ⊥
 other″ f p = let z : _≡_ {A = ℕ} 0 1 = cc in omega arith
 
 module _ (s : List ℕ) (x x′ : Lists) (y : Report) where

@@ -1,15 +1,14 @@
--- `report::report_with` meets its contract. Assumes nothing.
+-- `report::judge_with` meets its contract. Assumes nothing.
 use Rattle.report.specs.laws.CheckLaws.{check-byte, check-early, check-room, check-late, check-done}
 use borrow.Author.Needs.{needs}
-use Rattle.report.proofs.report_with.Statement.{statement}
-use Rattle.report.proofs.report_with.Tie as tie
-use Rattle.report.proofs.report_with.Reads as reads
-use Rattle.report.proofs.report_with.Lts as lts
+use Rattle.report.proofs.judge_with.Statement.{statement}
+use Rattle.report.proofs.judge_with.Tie as tie
+use Rattle.report.proofs.judge_with.Reads as reads
+use Rattle.report.proofs.judge_with.Lts as lts
 use Rattle.interchange.proofs.refuse.Reads as refuse-reads
 use Rattle.report.proofs.early_fault.Reads as early-fault-reads
 use Rattle.report.proofs.fits.Reads as fits-reads
 use Rattle.report.proofs.late_fault.Reads as late-fault-reads
-use Rattle.report.proofs.put_all.Reads as put-all-reads
 use Rattle.report.proofs.refusal_at.Reads as refusal-at-reads
 use Rattle.report.proofs.refusal_of_byte.Reads as refusal-of-byte-reads
 use Rattle.tally.proofs.tally_of.Reads as tally-of-reads
@@ -62,18 +61,6 @@ returns-3 c = search (check-byte, check-early, check-room, check-late, check-don
 enum-told-3 : tie.Need-enum-told-3
 enum-told-3 c = search (check-byte, check-early, check-room, check-late, check-done, needs)
 
-put-all-requires : tie.Need-put-all-requires
-put-all-requires c κs = search (check-byte, check-early, check-room, check-late, check-done, needs)
-
-same-length : tie.Need-same-length
-same-length c = search (check-byte, check-early, check-room, check-late, check-done, needs)
-
-same-length-2 : tie.Need-same-length-2
-same-length-2 c = search (check-byte, check-early, check-room, check-late, check-done, needs)
-
-same-length-3 : tie.Need-same-length-3
-same-length-3 c = search (check-byte, check-early, check-room, check-late, check-done, needs)
-
 returns-4 : tie.Need-returns-4
 returns-4 c = search (check-byte, check-early, check-room, check-late, check-done, needs)
 
@@ -83,8 +70,8 @@ refuse-requires c κs = search (check-byte, check-early, check-room, check-late,
 returns-5 : tie.Need-returns-5
 returns-5 c = search (check-byte, check-early, check-room, check-late, check-done, needs)
 
-pub report-with-spec : {M : Type 1} → statement M
-report-with-spec =
+pub judge-with-spec : {M : Type 1} → statement M
+judge-with-spec =
     tie.close
     (tie.spec
     tally-of-requires
@@ -103,10 +90,6 @@ report-with-spec =
     refusal-at-requires-2
     returns-3
     enum-told-3
-    put-all-requires
-    same-length
-    same-length-2
-    same-length-3
     returns-4
     refuse-requires
     returns-5)
