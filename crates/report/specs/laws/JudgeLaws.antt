@@ -1,4 +1,4 @@
--- Judging and listing make a report, and of lists that are long enough a report does not depend. Assumes nothing.
+-- A report is judging and then listing, and which lists are lent does not matter to it if they are long enough. Assumes nothing.
 use Prim.Native.Nat.{ℕ, suc, _≤_}
 use native.Mathlib.Omega.{arith}
 use mathlib.Core.Path.{_≡_, refl, sym, ap, subst, _∙_}
