@@ -1,7 +1,7 @@
 /* A small sending program over Twineherald.
  *
  *   host FILE            says in words what the check finds in one file of payment messages or debit advices
- *   host --once FILE     the same by one call for all messages, whose places it finds itself; no totals are told
+ *   host --once FILE     the same by one call for all messages, whose places it finds itself; no kind and no totals are told
  *   host --rewrite FILE  writes the file in plain service characters to standard output
  *
  * Exit status: 0 if everything was accepted, 1 if anything was refused, 2 if the program was called
