@@ -1,7 +1,7 @@
 /* Times the check of an interchange beside a plain scan of its bytes, and one call for all messages beside the walk; measures the
  * stack that they use.
- * Usage: bench DEEPEST FILE...: DEEPEST holds a message that goes as deep as the chart does; each FILE is an interchange, those of
- * one kind one after the other, the shortest first. All take turns, and the least processor time of each counts. */
+ * Usage: bench ORDER ADVICE FILE...: ORDER and ADVICE hold a message that goes as deep as its chart does; each FILE is an interchange,
+ * those of one kind one after the other, the shortest first. All take turns, and the least processor time of each counts. */
 #define _POSIX_C_SOURCE 200809L
 #include <inttypes.h>
 #include <pthread.h>
@@ -16,7 +16,7 @@
 #define ROUNDS 60
 #endif
 
-enum { LISTS = 9999, STACK = 1 << 20, MOST_STACK = 3600, MESSAGES = 1000 };
+enum { LISTS = 9999, STACK = 1 << 20, MOST_STACK = 2900, MESSAGES = 1000 };
 
 typedef struct {
     const uint8_t *bytes;
@@ -30,7 +30,14 @@ typedef struct {
     size_t messages;
     twineherald_step answers[MESSAGES];
     uint64_t answered;
+    /* where the first message lies */
+    size_t start, end;
 } work;
+
+/* What a check uses of the stack: of one message, of a file by walking, of a file by one call. */
+typedef struct {
+    size_t check, walk, once;
+} stacks;
 
 /* Processor time of this thread. */
 static double now(void)
@@ -83,6 +90,10 @@ static void walk_all(work *w)
             return;
         w->positions[w->messages] = at;
         at = step.end;
+        if (w->messages == 0) {
+            w->start = step.start;
+            w->end = step.end;
+        }
     }
 }
 
@@ -94,6 +105,13 @@ static void answer_all(work *w)
         return;
     for (size_t k = 0; k < w->messages; k++)
         w->answered += w->answers[k].found && w->answers[k].report.number == 0;
+}
+
+/* The first message alone. */
+static void check_first(work *w)
+{
+    twineherald_report report = twineherald_check(w->bytes, w->length, w->bytes + w->start, w->end - w->start, w->rows, LISTS, w->starts, LISTS, w->totals, LISTS);
+    w->accepted = report.number == 0;
 }
 
 static volatile uint64_t sink;
@@ -117,6 +135,11 @@ static void *on_thread(void *p)
 static void *answers_on_thread(void *p)
 {
     answer_all(p);
+    return p;
+}
+static void *check_on_thread(void *p)
+{
+    check_first(p);
     return p;
 }
 
@@ -176,15 +199,23 @@ static double measure(const char *path, work *w, int *at_once)
     return cost;
 }
 
-static size_t used_by(const char *path, work *w, size_t empty)
+static stacks used_by(const char *path, work *w, size_t empty)
 {
+    stacks used;
     uint8_t *bytes = read_file(path, &w->length);
     w->bytes = bytes;
-    size_t used = touched(on_thread, w) - empty;
     walk_all(w);
-    size_t once = touched(answers_on_thread, w) - empty;
+    used.check = touched(check_on_thread, w) - empty;
+    used.once = touched(answers_on_thread, w) - empty;
+    used.walk = touched(on_thread, w) - empty;
     free(bytes);
-    return used > once ? used : once;
+    return used;
+}
+
+static size_t most_of(stacks used)
+{
+    size_t most = used.check > used.walk ? used.check : used.walk;
+    return most > used.once ? most : used.once;
 }
 
 int main(int count, char **files)
@@ -193,23 +224,24 @@ int main(int count, char **files)
     w.rows = calloc(LISTS, sizeof *w.rows);
     w.starts = calloc(LISTS, sizeof *w.starts);
     w.totals = calloc(LISTS, sizeof *w.totals);
-    if (count < 3 || w.rows == NULL || w.starts == NULL || w.totals == NULL)
+    if (count < 4 || w.rows == NULL || w.starts == NULL || w.totals == NULL)
         return 2;
     size_t empty = touched(nothing, NULL), stack = 0;
     for (int k = 1; k < count; k++) {
-        size_t used = used_by(files[k], &w, empty);
-        if (k == 1)
-            printf("stack: %zu bytes besides the lists at the deepest placement (%" PRIu64 " accepted)\n", used, w.accepted);
-        if (used > stack)
-            stack = used;
+        stacks used = used_by(files[k], &w, empty);
+        if (k < 3)
+            printf("stack besides the lists at the deepest %s (%" PRIu64 " accepted): check %zu bytes, walk %zu, one call %zu\n", k == 1 ? "order" : "advice", w.accepted,
+                   used.check, used.walk, used.once);
+        if (most_of(used) > stack)
+            stack = most_of(used);
     }
     printf("stack: %zu bytes besides the lists at most\n", stack);
     int linear = 1, at_once = 1;
     double first = 0;
     size_t before = 0;
-    for (int k = 2; k < count; k++) {
+    for (int k = 3; k < count; k++) {
         double cost = measure(files[k], &w, &at_once);
-        if (w.length < before || k == 2)
+        if (w.length < before || k == 3)
             first = cost;
         else
             printf("cost of a byte against the shortest file of its kind: %.2f\n", cost / first);

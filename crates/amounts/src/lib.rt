@@ -8,7 +8,7 @@ ghost use Rattle.values.specs.Text.{says};
 ghost use Rattle.message.specs.Segs.{segAt};
 ghost use Rattle.message.specs.Rules.{isOf, worth, capitals, firstHolds, secondHolds, cuxHolds};
 ghost use Rattle.message.specs.forms.Counts.{most};
-ghost use Rattle.amounts.specs.forms.Steps.{orderOf, sumsOf, sumsStart, sumsStep, amountsClose, ownAt, baseBy, basesBy, noOrder, orderEnded, withForm, exchanged, paid};
+ghost use Rattle.amounts.specs.forms.Steps.{orderOf, sumsOf, sumsStart, sumsStep, amountsClose, ownAt, baseBy, basesBy, noOrder, heldBy, endedWith, orderEnded, withForm, exchanged, paid};
 use faults::First;
 use service::Service;
 use values::Amount;
@@ -189,9 +189,41 @@ fn add(sum: u64, amount: u64) -> u64
     18446744073709551615
 }
 
-// The end of an order, and the next one.
-fn next_order(st: Amounts, m: &[u8], v: Service, order: Order) -> Amounts
-    ensures { λ r. ⌜ r ≡ orderEnded v (now (m .entry)) st order ⌝ }
+// What an order's own MOA must hold at the order's end: its qualifier, its currency, an exchange if it needs one, and the total of its payments.
+struct Holds {
+    qualifier: bool,
+    currency: bool,
+    exchange: bool,
+    total: bool,
+}
+
+// What of this holds of the order whose MOA stands at `at`; all of it where no MOA came.
+fn held(m: &[u8], v: Service, live: bool, at: usize, exchanged: bool, sum: u64) -> Holds
+    ensures { λ r. ⌜ r ≡ heldBy v (now (m .entry)) live at exchanged sum ⌝ }
+{
+    if live {
+        let qualifier = has_qualifier(m, v, at);
+        let currency = has_currency(m, v, at);
+        let exchange = exchange_came(m, v, at, exchanged);
+        let total = worth_at(m, v, at) == sum;
+        return Holds {
+            qualifier,
+            currency,
+            exchange,
+            total,
+        };
+    }
+    Holds {
+        qualifier: true,
+        currency: true,
+        exchange: true,
+        total: true,
+    }
+}
+
+// The end of an order of which this holds, and the next one.
+fn next_order(st: Amounts, h: Holds, order: Order) -> Amounts
+    ensures { λ r. ⌜ r ≡ endedWith st h order ⌝ }
 {
     let o = st.order;
     let first22 = st.first22;
@@ -199,27 +231,17 @@ fn next_order(st: Amounts, m: &[u8], v: Service, order: Order) -> Amounts
     let f24 = st.first24;
     let f25 = st.first25;
     let f26 = st.first26;
-    if o.live {
-        let first23 = faults::keep(f23, has_qualifier(m, v, o.at), o.nth);
-        let first24 = faults::keep(f24, has_currency(m, v, o.at), o.nth);
-        let first25 = faults::keep(f25, exchange_came(m, v, o.at, o.exchanged), o.nth);
-        let first26 = faults::keep(f26, worth_at(m, v, o.at) == o.sum, o.nth);
-        return Amounts {
-            order,
-            first22,
-            first23,
-            first24,
-            first25,
-            first26,
-        };
-    }
+    let first23 = faults::keep(f23, h.qualifier, o.nth);
+    let first24 = faults::keep(f24, h.currency, o.nth);
+    let first25 = faults::keep(f25, h.exchange, o.nth);
+    let first26 = faults::keep(f26, h.total, o.nth);
     Amounts {
         order,
         first22,
-        first23: f23,
-        first24: f24,
-        first25: f25,
-        first26: f26,
+        first23,
+        first24,
+        first25,
+        first26,
     }
 }
 
@@ -227,7 +249,8 @@ fn next_order(st: Amounts, m: &[u8], v: Service, order: Order) -> Amounts
 pub fn close(st: Amounts, m: &[u8], v: Service) -> Amounts
     ensures { λ r. ⌜ r ≡ amountsClose v (now (m .entry)) st ⌝ }
 {
-    next_order(st, m, v, no_order())
+    let o = st.order;
+    next_order(st, held(m, v, o.live, o.at, o.exchanged, o.sum), no_order())
 }
 
 // The form of the amount of a MOA, the nth segment.
@@ -264,7 +287,8 @@ fn order_moa(st: Amounts, m: &[u8], v: Service, at: usize, nth: usize) -> Amount
         exchanged: false,
         sum: 0,
     };
-    next_order(u, m, v, order)
+    let o = st.order;
+    next_order(u, held(m, v, o.live, o.at, o.exchanged, o.sum), order)
 }
 
 // An order's CUX.
@@ -349,7 +373,8 @@ pub fn step(st: Amounts, m: &[u8], v: Service, at: usize, nth: usize, row: usize
     ensures { λ r. ⌜ r .order .at ≡ ownAt (st .order .at) row at ⌝ }
 {
     if row == paymul::LIN {
-        return next_order(st, m, v, no_order());
+        let o = st.order;
+        return next_order(st, held(m, v, o.live, o.at, o.exchanged, o.sum), no_order());
     }
     if row == paymul::ORDER_MOA {
         return order_moa(st, m, v, at, nth);

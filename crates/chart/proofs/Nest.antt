@@ -6,21 +6,21 @@ use Prim.Native.Nat.{ℕ, zero, suc, _+_, _-_, _<_, _≤_}
 use native.Mathlib.Omega.{arith}
 use lib.ListN.{length}
 use lib.Dec.{T, ltb, leb, eqb, ltb→lt, leb→le, eqb→eq}
-use borrow.Author.Tests.{eq-eqb, ne-eqb, eqb-true, eqb-false, lt-ltb, le-ltb}
+use borrow.Author.Tests.{eq-eqb, ne-eqb, eqb-true, eqb-false}
 use Rattle.service.specs.Tests.{if, alike}
 use Rattle.chart.specs.Chart.{Rows, none, row}
-use Rattle.chart.proofs.Theory.{and-left, and-right, or-cases, nots, T-true}
+use Rattle.chart.proofs.Theory.{and-left, and-right, or-cases, nots, T-true, true-T}
 use Rattle.chart.specs.forms.Machine.{owed}
 use Rattle.table.specs.Entries.{parentIn, required}
 use Rattle.chart.specs.Table.{Table, chartOf}
-use Rattle.chart.specs.forms.Sound.{Sound, all-to, nests, childless, heads}
-use Rattle.chart.specs.forms.Columns.{tagOf, parentOf, statusOf, repeatsOf, endOf, reqOf, mostOf, firstOf, rowAt, Is, is-none, is-row, RowIs, Some}
+use Rattle.chart.specs.forms.Sound.{Sound, alone, all-to, nests, childless, heads}
+use Rattle.chart.specs.forms.Columns.{tagOf, parentOf, statusOf, repeatsOf, endOf, reqOf, mostOf, firstOf, rowAt, Is, is-none, is-row, RowIs}
 
 and-true : (b : Bool) → and b true ≡ b
 and-true true = refl
 and-true false = refl
 
-and-false : (b : Bool) → and b false ≡ false
+pub and-false : (b : Bool) → and b false ≡ false
 and-false true = refl
 and-false false = refl
 
@@ -67,9 +67,6 @@ is-of t lo hi (row num tag req most kids rest) h =
 pub chart-is : (t : Table) → Sound t → Is t 0 (length t) (chartOf t)
 chart-is t s = is-of t 0 (length t) (chartOf t) (s .nested)
 
-pub chart-some : (t : Table) → Sound t → Some t 0 (length t)
-chart-some t s = record { rows = chartOf t; are = chart-is t s }
-
 -- THE TABLE: a row of rows that are not done
 pub record Head (t : Table) (r hi : ℕ) (rows : Rows) : Type 0 where
   pub it : RowIs t r
@@ -87,17 +84,6 @@ pub ended : {t : Table} {r hi : ℕ} {rows : Rows} → Is t r hi rows → hi ≤
 ended is-none le = refl
 ended (is-row s u d w z p q m k b) le = absurd (omega arith)
 
--- the rows inside a row, but its first, which go from o to e
-module _ (t : Table) (r f o e : ℕ) (ef : f ≡ firstOf t r) (eo : o ≡ f + 1) (ee : e ≡ endOf t r) where
-  pub kids-is : (kids : Rows) → Is t (firstOf t r + 1) (endOf t r) kids → Is t o e kids
-  kids-is kids is = rw (eo, ef, ee) is
-
-  pub kids-some : RowIs t r → Some t o e
-  kids-some x = record { rows = x .kids; are = kids-is (x .kids) (x .below) }
-
-  pub kids-fall : RowIs t r → (n : ℕ) → (endOf t r - r) + (endOf t r - r) ≡ n → (e - o) + (e - o) + 1 < n
-  kids-fall x n h = omega (arith, x .up, x .down)
-
 pub first-fits : (t : Table) (r f e b : ℕ) → RowIs t r → f ≡ firstOf t r → e ≡ endOf t r → e < b → f + 1 < b
 first-fits t r f e b x ef ee h = omega (arith, x .up, x .down)
 
@@ -111,9 +97,27 @@ at-each (suc n) P h r lt = go (λ lt2. at-each n P (and-right (P n) _ h) r lt2) 
     go k true e = subst (λ (x : ℕ). T (P x)) (sym (eqb-true r n e)) (and-left (P n) _ h)
     go k false e = k (omega (arith, eqb-false r n e))
 
--- no row's tag is 0
+-- no row's tag is 0, nor that of a cursor where no message goes on
 pub tag-some : (t : Table) (r : ℕ) → tagOf t r ≡ 0 → ⊥
 tag-some t r e = omega arith
+
+pub tag-runs : (t : Table) (r : ℕ) → tagOf t r ≡ 2 → ⊥
+tag-runs t r e = omega arith
+
+-- THE MESSAGE'S OWN ROW
+pub record Own (t : Table) : Type 0 where
+  pub some : 0 < length t
+  pub end : endOf t 0 ≡ length t
+  pub must : reqOf t 0 ≡ true
+  pub once : mostOf t 0 ≡ 1
+
+pub own : (t : Table) → Sound t → Own t
+unfolding alone
+own t s =
+    let a = both (ltb 0 (length t)) _ (s .whole) in
+    let b = both (eqb (endOf t 0) (length t)) _ (a .1) in
+    let c = both (reqOf t 0) (eqb (mostOf t 0) 1) (b .1) in
+    record { some = ltb→lt 0 (length t) (a .0); end = eqb→eq (endOf t 0) (length t) (b .0); must = true-T (reqOf t 0) (c .0); once = eqb→eq (mostOf t 0) 1 (c .1) }
 
 -- A GROUP'S FIRST ROW is a segment of the group's own tag, required, once: so an occurrence of the group is its first segment once, then its other rows
 pub record GroupFirst (t : Table) (r : ℕ) : Type 0 where
@@ -146,11 +150,17 @@ group-first t s r q lr lq e =
     }
 
 -- ---- the first row of an occurrence
-module _ (t : Table) (r e : ℕ) (q : e ≡ endOf t r) where
-  pub first-group : r + 1 < e → r + 1 ≡ firstOf t r
-  unfolding firstOf
-  first-group h = sym (pick-true _ _ (let g : r + 1 < endOf t r = omega arith in lt-ltb _ _ g))
+module _ (t : Table) (r : ℕ) where
+  pub group-by : (e : ℕ) → e ≡ endOf t r → ltb (r + 1) e ≡ ltb (r + 1) (endOf t r)
+  group-by e q = ap (ltb (r + 1)) q
 
-  pub first-segment : e ≤ r + 1 → r ≡ firstOf t r
+  pub first-group : (b : Bool) → b ≡ ltb (r + 1) (endOf t r) → b ≡ true → r + 1 ≡ firstOf t r
   unfolding firstOf
-  first-segment h = sym (pick-false _ _ (let g : endOf t r ≤ r + 1 = omega arith in le-ltb _ _ g))
+  first-group b e h = sym (pick-true _ _ (sym e ∙ h))
+
+  pub first-segment : ltb (r + 1) (endOf t r) ≡ false → r ≡ firstOf t r
+  unfolding firstOf
+  first-segment e = sym (pick-false _ _ e)
+
+  pub first-other : (b : Bool) → b ≡ ltb (r + 1) (endOf t r) → b ≡ false → r ≡ firstOf t r
+  first-other b e h = first-segment (sym e ∙ h)

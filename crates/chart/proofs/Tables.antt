@@ -11,7 +11,6 @@ use Rattle.paymul.specs.Table.{PAYMUL}
 use Rattle.debmul.specs.Table as debmul
 use Rattle.debmul.specs.Table.{DEBMUL}
 use Rattle.chart.specs.declared.Cursor.{Cursor}
-use Rattle.chart.specs.declared.Went.{Went}
 use Rattle.table.specs.Entries.{linesFrom, within, text}
 use Rattle.chart.specs.forms.Machine.{det, detK, good, goodK, doubt, may, mayRows, takes, owed, choose, agree, agreeRows, guides, guidesK, labels, closing, lacking}
 use Rattle.chart.specs.Table.{Table, chartOf, inside, rowOver}
@@ -19,16 +18,16 @@ use Rattle.chart.specs.forms.Columns.{parentOf, reqOf, mostOf, firstOf}
 use Rattle.chart.specs.forms.Next.{nextOf, chainFrom, findIn, nextRow}
 use Rattle.chart.specs.forms.Placing.{RowsDone}
 use lib.ListN.{length}
-use Rattle.chart.specs.forms.Sound.{Sound, all-to, nests, childless, heads}
+use Rattle.chart.specs.forms.Sound.{Sound, alone, all-to, nests, childless, heads}
 
 -- THE COMPUTED TESTS
 paymul-sound : Sound PAYMUL
-unfolding PAYMUL paymul.table linesFrom within text chartOf inside rowOver parentOf reqOf mostOf firstOf all-to nests childless heads detK det goodK good doubt may mayRows takes owed choose agree agreeRows guides guidesK labels closing lacking nextRow chainFrom findIn nextOf
-paymul-sound = record { nested = tt; headed = tt; decided = tt; allowed = tt; near = tt; far = tt; labelled = tt; closed = tt }
+unfolding PAYMUL paymul.table linesFrom within text chartOf inside rowOver parentOf reqOf mostOf firstOf alone all-to nests childless heads detK det goodK good doubt may mayRows takes owed choose agree agreeRows guides guidesK labels closing lacking nextRow chainFrom findIn nextOf
+paymul-sound = record { whole = tt; nested = tt; headed = tt; decided = tt; allowed = tt; near = tt; far = tt; labelled = tt; closed = tt }
 
 debmul-sound : Sound DEBMUL
-unfolding DEBMUL debmul.table linesFrom within text chartOf inside rowOver parentOf reqOf mostOf firstOf all-to nests childless heads detK det goodK good doubt may mayRows takes owed choose agree agreeRows guides guidesK labels closing lacking nextRow chainFrom findIn nextOf
-debmul-sound = record { nested = tt; headed = tt; decided = tt; allowed = tt; near = tt; far = tt; labelled = tt; closed = tt }
+unfolding DEBMUL debmul.table linesFrom within text chartOf inside rowOver parentOf reqOf mostOf firstOf alone all-to nests childless heads detK det goodK good doubt may mayRows takes owed choose agree agreeRows guides guidesK labels closing lacking nextRow chainFrom findIn nextOf
+debmul-sound = record { whole = tt; nested = tt; headed = tt; decided = tt; allowed = tt; near = tt; far = tt; labelled = tt; closed = tt }
 
 pub sound : (k : Kind) → Sound (tableOf k)
 sound Paymul = paymul-sound
@@ -42,7 +41,7 @@ module _ (t : Table) where
   pub debmul-at : t ≡ DEBMUL → Sound t
   debmul-at e = subst Sound (sym e) debmul-sound
 
-module _ (v : Service) (m : List ℕ) (c : Cursor) (w : Went) where
+module _ (v : Service) (m : List ℕ) (c : Cursor) (w : Cursor) where
   -- all rows of a table have been gone through
   abbrev All : Table → Type 0
   All t = RowsDone t v m 0 (length t) c w

@@ -3,12 +3,12 @@ use mathlib.Core.Path.{_≡_, refl, subst, _∙_}
 use mathlib.Core.List.{List, map}
 use mathlib.Core.Logic.{inl}
 use Prim.Native.Nat.{ℕ, suc, _<_, _≤_}
+use native.Mathlib.Decide.{decLt}
+use native.Mathlib.Omega.{arith}
 use lib.ListN.{length, getD, drop, drop-of-length-le}
 use lib.Seq.{drop-cons}
 use Rattle.service.specs.declared.Service.{Service}
 use Rattle.chart.specs.declared.Cursor.{Cursor}
-use Rattle.chart.specs.declared.Went.{Went}
-use Rattle.chart.specs.declared.Went.the-variants.{To, Stuck}
 use Rattle.chart.specs.Chart.{Placement, Reading}
 use Rattle.chart.specs.forms.Machine.{only, done, placed, stuck, run, step, free}
 use Rattle.chart.specs.Table.{Table, chartOf}
@@ -17,8 +17,8 @@ use Rattle.chart.specs.forms.Columns.{tagOf}
 use Rattle.chart.specs.forms.Next.{nextRow, rowsOf}
 use Rattle.chart.specs.Tags.{tagsOf}
 use Rattle.chart.specs.forms.Cursor.{CursorIs}
-use Rattle.chart.specs.laws.CursorLaws.{stands-first, stands-lt, stands-ge, stands-at}
-use Rattle.chart.specs.forms.Placing.{RowsPass, RowsStop, RowsDone}
+use Rattle.chart.specs.laws.CursorLaws.{stands-first, stands-lt, stands-ge, stands-none, stands-at}
+use Rattle.chart.specs.forms.Placing.{RowsPass, RowsStop, RowsDone, rows-passed, rows-stopped}
 use Rattle.chart.specs.Answer.{StuckAt}
 use Rattle.chart.proofs.Theory.{Fine, run-end, run-fail}
 use Rattle.chart.proofs.Plain.{placed-one, stuck-fails}
@@ -52,23 +52,37 @@ run-all : (ts : List ℕ) (j : ℕ) → length ts ≤ j → run (drop j ts) done
 unfolding free
 run-all ts j le = rw (drop-of-length-le ts le) (run-end done j refl)
 
-module _ (t : Table) (sd : Sound t) (v : Service) (m : List ℕ) (c : Cursor) (w : Went) (h : CursorIs v m 0 c) (dn : RowsDone t v m 0 (length t) c w) where
-  pub whole-placed : (d : Cursor) → w ≡ To d → length m ≤ d .at → Reading (chartOf t) (tagsOf v m) (rowsOf t (tagsOf v m))
-  whole-placed d ew e =
-      let d2 : RowsPass t v m 0 (length t) c d = subst (λ (u : Went). RowsDone t v m 0 (length t) c u) ew dn in
-      let x = d2 .pass 0 (stands-first v m c h) in
-      let f = placed-one (chartOf t) (tagsOf v m) (fine t sd) (x .2 (chartOf t) (chart-is t sd) done ∙ run-all (tagsOf v m) (x .0) (stands-ge v m (x .0) d (x .1) e)) in
-      reading-of t sd (tagsOf v m) (f .0) (f .1)
-
-  pub whole-over : (d : Cursor) → w ≡ To d → d .at < length m → StuckAt t v m (d .at)
-  whole-over d ew e =
-      let d2 : RowsPass t v m 0 (length t) c d = subst (λ (u : Went). RowsDone t v m 0 (length t) c u) ew dn in
-      let x = d2 .pass 0 (stands-first v m c h) in
+module _ (t : Table) (sd : Sound t) (v : Service) (m : List ℕ) (c d : Cursor) (h : CursorIs v m 0 c) where
+  over : RowsPass t v m 0 (length t) c d → d .at < length m → StuckAt t v m (d .at)
+  over p e =
+      let x = p .pass 0 (stands-first v m c h) in
       let f = x .2 (chartOf t) (chart-is t sd) done ∙ run-done (tagsOf v m) (x .0) (stands-lt v m (x .0) d (x .1) e) in
       record { j = x .0; start = stands-at v m (x .0) d (x .1); fails = stuck-fails (chartOf t) (tagsOf v m) (x .0) (fine t sd) f }
 
-  pub whole-stuck : (p : ℕ) → w ≡ Stuck p → StuckAt t v m p
-  whole-stuck p ew =
-      let d2 : RowsStop t v m 0 (length t) c p = subst (λ (u : Went). RowsDone t v m 0 (length t) c u) ew dn in
-      let x = d2 .stop 0 (stands-first v m c h) in
+  short : RowsStop t v m 0 (length t) c (d .at) → StuckAt t v m (d .at)
+  short p =
+      let x = p .stop 0 (stands-first v m c h) in
       record { j = x .0; start = x .1; fails = stuck-fails (chartOf t) (tagsOf v m) (x .0) (fine t sd) (x .2 (chartOf t) (chart-is t sd) done) }
+
+  pub whole-placed : RowsDone t v m 0 (length t) c d → (d .tag ≡ 2 → ⊥) → length m ≤ d .at → Reading (chartOf t) (tagsOf v m) (rowsOf t (tagsOf v m))
+  whole-placed (rows-stopped q p) ne e = absurd (ne q)
+  whole-placed (rows-passed p) ne e =
+      let x = p .pass 0 (stands-first v m c h) in
+      let f = placed-one (chartOf t) (tagsOf v m) (fine t sd) (x .2 (chartOf t) (chart-is t sd) done ∙ run-all (tagsOf v m) (x .0) (stands-ge v m (x .0) d (x .1) e)) in
+      reading-of t sd (tagsOf v m) (f .0) (f .1)
+
+  pub whole-over : RowsDone t v m 0 (length t) c d → d .at < length m → StuckAt t v m (d .at)
+  whole-over (rows-passed p) e = over p e
+  whole-over (rows-stopped q p) e = short p
+
+  -- past the last segment the tag is 0
+  pub whole-stuck : RowsDone t v m 0 (length t) c d → d .tag ≡ 2 → StuckAt t v m (d .at)
+  whole-stuck (rows-stopped q p) e = short p
+  whole-stuck (rows-passed p) e = go (decLt (d .at) (length m))
+    where
+      go : Dec (d .at < length m) → StuckAt t v m (d .at)
+      go (yes g) = over p g
+      go (no g) =
+          let x = p .pass 0 (stands-first v m c h) in
+          let z = stands-none v m (x .0) d (x .1) (omega arith) in
+          absurd (omega (arith, z, e))

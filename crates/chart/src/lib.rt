@@ -1,13 +1,14 @@
 // Placing a message's segments on a chart.
 ghost use mathlib.Core.Path.{_≡_};
-ghost use Prim.Native.Nat.{_<_};
+ghost use Prim.Native.Nat.{_+_, _<_};
+ghost use lib.Dec.{ltb};
 ghost use lib.ListN.{length};
 ghost use Rattle.chart.specs.forms.Machine.{owed, takes as taken};
-ghost use Rattle.chart.specs.forms.Placing.{RowDone, RowsDone};
-ghost use Rattle.chart.specs.forms.Cursor.{CursorIs, Stepped};
+ghost use Rattle.chart.specs.forms.Placing.{OnceDone, RowsDone, TurnIs};
+ghost use Rattle.chart.specs.forms.Cursor.{CursorIs, Stepped, halted};
 ghost use Rattle.chart.specs.Answer.{Answers};
 ghost use Rattle.chart.specs.forms.Next.{nextOf, nextRow};
-ghost use Rattle.chart.specs.forms.Columns.{tagOf, parentOf, endOf, statusOf, reqOf, mostOf, firstOf, RowIs, Some};
+ghost use Rattle.chart.specs.forms.Columns.{tagOf, parentOf, endOf, statusOf, reqOf, mostOf, firstOf, RowIs};
 ghost use Rattle.chart.specs.forms.Sound.{Sound};
 ghost use Rattle.kinds.specs.Kinds.{tableOf};
 ghost use Rattle.paymul.specs.Table.{PAYMUL};
@@ -35,16 +36,21 @@ pub struct Cursor {
     pub tag: u64,
 }
 
-pub enum Went {
-    To(Cursor),
+pub enum Placed {
+    Whole,
     // The first segment with which no message can begin stands here.
     Stuck(usize),
 }
 
-pub enum Placed {
-    Whole,
-    Stuck(usize),
+// A row takes a segment, or must come before it, or is passed.
+enum Turn {
+    Takes,
+    Owes,
+    Passes,
 }
+
+// The tag of a cursor at which no message goes on: no row has it.
+const STUCK: u64 = 2;
 
 // The cursor at a segment that begins at `at`.
 pub fn cursor_at(m: &[u8], at: usize, v: Service) -> Cursor
@@ -58,18 +64,25 @@ pub fn cursor_at(m: &[u8], at: usize, v: Service) -> Cursor
 }
 
 // The cursor one segment further, or past the last one.
-pub fn step(m: &[u8], v: Service, c: Cursor) -> Cursor
-    ensures { λ r. ⌜ Stepped v (now (m .entry)) c r ⌝ }
+fn after(m: &&[u8], v: Service, c: Cursor) -> Cursor
+    ensures { λ r. ⌜ Stepped v (now (now (m .entry))) c r ⌝ }
 {
-    let g = segments::segment_at(m, c.at, v);
+    let g = segments::segment_at(*m, c.at, v);
     match g {
-        Segment::Finished(_, next) => cursor_at(m, next, v),
+        Segment::Finished(_, next) => cursor_at(*m, next, v),
         Segment::Unfinished => Cursor {
             at: m.len(),
             tag: 0,
         },
         Segment::Nothing => c,
     }
+}
+
+// The same, of a message that is lent once.
+pub fn step(m: &[u8], v: Service, c: Cursor) -> Cursor
+    ensures { λ r. ⌜ Stepped v (now (m .entry)) c r ⌝ }
+{
+    after(&m, v, c)
 }
 
 // A byte as a number.
@@ -130,13 +143,30 @@ fn most_of(t: &[[u8; COLUMNS]], r: usize) -> usize
     hundreds * 100 + ones
 }
 
+// Whether a row has rows inside it.
+fn is_group(t: &[[u8; COLUMNS]], r: usize) -> bool
+    requires { ⌜ r < length (now t) ⌝ }
+    ensures { λ x. ⌜ x ≡ ltb (r + 1) (endOf (now (t .entry)) r) ⌝ }
+{
+    r + 1 < end_of(t, r)
+}
+
 // The row of the first segment of an occurrence of a row.
 fn first_of(t: &[[u8; COLUMNS]], r: usize) -> usize
     requires { ⌜ r < length (now t) ⌝ }
     ensures { λ x. ⌜ x ≡ firstOf (now (t .entry)) r ⌝ }
 {
-    let end = end_of(t, r);
-    if r + 1 < end { r + 1 } else { r }
+    if is_group(t, r) { r + 1 } else { r }
+}
+
+// The cursor where it stands, with the tag that says that no message goes on there.
+fn stuck_at(c: Cursor) -> Cursor
+    ensures { λ r. ⌜ r ≡ halted c ⌝ }
+{
+    Cursor {
+        at: c.at,
+        tag: STUCK,
+    }
 }
 
 // Whether a row is required and has not come.
@@ -154,28 +184,6 @@ fn owes(t: &[[u8; COLUMNS]], r: usize, times: usize) -> bool
     false
 }
 
-// The rows from `lo` up to but excluding `hi`, side by side.
-fn place_rows(m: &[u8], v: Service, t: &[[u8; COLUMNS]], lo: usize, hi: usize, from: Cursor) -> Went
-    requires { ⌜ Some (now t) lo hi ⌝ }
-    ensures { λ x. ⌜ RowsDone (now (t .entry)) v (now (m .entry)) lo hi from x ⌝ }
-{
-    let mut r = lo;
-    let mut c = from;
-    while r < hi {
-        let w = place_occurrences(m, v, t, r, c);
-        match w {
-            Went::To(d) => {
-                c = d;
-            }
-            Went::Stuck(at) => {
-                return Went::Stuck(at);
-            }
-        }
-        r = end_of(t, r);
-    }
-    Went::To(c)
-}
-
 // Whether a segment of the tag stands at the cursor and the row may come once more.
 fn takes(c: Cursor, tag: u64, times: usize, most: usize) -> bool
     ensures { λ x. ⌜ x ≡ taken (c .tag) times tag most ⌝ }
@@ -186,51 +194,79 @@ fn takes(c: Cursor, tag: u64, times: usize, most: usize) -> bool
     false
 }
 
-// The occurrences of the row `r`: each its first segment and then its other rows.
-fn place_occurrences(m: &[u8], v: Service, t: &[[u8; COLUMNS]], r: usize, from: Cursor) -> Went
-    requires { ⌜ RowIs (now t) r ⌝ }
-    ensures { λ x. ⌜ RowDone (now (t .entry)) v (now (m .entry)) r from x ⌝ }
+// What a row that has come `times` times makes of the segment at the cursor.
+fn turn_of(t: &[[u8; COLUMNS]], r: usize, times: usize, c: Cursor) -> Turn
+    requires { ⌜ r < length (now t) ⌝ }
+    ensures { λ x. ⌜ TurnIs (now (t .entry)) r times c x ⌝ }
 {
     let tag = tag_of(t, r);
     let most = most_of(t, r);
-    let end = end_of(t, r);
-    let others = first_of(t, r) + 1;
-    let mut times: usize = 0;
-    let mut c = from;
-    while takes(c, tag, times, most) {
-        let next = times + 1;
-        let d = step(m, v, c);
-        if others < end {
-            let w = place_rows(m, v, t, others, end, d);
-            match w {
-                Went::To(e) => {
-                    c = e;
-                }
-                Went::Stuck(at) => {
-                    return Went::Stuck(at);
-                }
-            }
-        } else {
-            c = d;
-        }
-        times = next;
+    if takes(c, tag, times, most) {
+        return Turn::Takes;
     }
     if owes(t, r, times) {
-        return Went::Stuck(c.at);
+        return Turn::Owes;
     }
-    Went::To(c)
+    Turn::Passes
+}
+
+// The rows inside the row `g`, but the first: each as often as it comes. Message and table are lent on as they came, so that a level of the recursion keeps no copy
+// of where they lie.
+fn place_rows(m: &&[u8], v: Service, t: &&[[u8; COLUMNS]], g: usize, from: Cursor) -> Cursor
+    requires { ⌜ RowIs (now (now t)) g ⌝ }
+    ensures { λ x. ⌜ RowsDone (now (now (t .entry))) v (now (now (m .entry))) (firstOf (now (now (t .entry))) g + 1) (endOf (now (now (t .entry))) g) from x ⌝ }
+{
+    let end = end_of(*t, g);
+    let mut r = first_of(*t, g) + 1;
+    let mut times: usize = 0;
+    let mut c = from;
+    while r < end {
+        let turn = turn_of(*t, r, times, c);
+        match turn {
+            Turn::Takes => {
+                let next = times + 1;
+                if is_group(*t, r) {
+                    c = place_occurrence(m, v, t, r, c);
+                } else {
+                    c = after(m, v, c);
+                }
+                times = next;
+            }
+            Turn::Owes => {
+                return stuck_at(c);
+            }
+            Turn::Passes => {
+                r = end_of(*t, r);
+                times = 0;
+            }
+        }
+    }
+    c
+}
+
+// One occurrence of the row `r`: its first segment, which stands at the cursor, and then the rows inside it.
+fn place_occurrence(m: &&[u8], v: Service, t: &&[[u8; COLUMNS]], r: usize, from: Cursor) -> Cursor
+    requires { ⌜ RowIs (now (now t)) r ⌝ }
+    requires { ⌜ from .tag ≡ tagOf (now (now t)) r ⌝ }
+    ensures { λ x. ⌜ OnceDone (now (now (t .entry))) v (now (now (m .entry))) r from x ⌝ }
+{
+    let c = after(m, v, from);
+    place_rows(m, v, t, r, c)
 }
 
 // All rows of the table: the message's own, once.
-fn place_all(m: &[u8], v: Service, t: &[[u8; COLUMNS]], from: Cursor) -> Went
+fn place_all(m: &[u8], v: Service, t: &[[u8; COLUMNS]], from: Cursor) -> Cursor
     requires { ⌜ Sound (now t) ⌝ }
     ensures { λ x. ⌜ RowsDone (now (t .entry)) v (now (m .entry)) 0 (length (now (t .entry))) from x ⌝ }
 {
-    place_rows(m, v, t, 0, t.len(), from)
+    if from.tag == tag_of(t, 0) {
+        return place_occurrence(&m, v, &t, 0, from);
+    }
+    stuck_at(from)
 }
 
 // The same of the PAYMUL chart.
-fn place_order(m: &[u8], v: Service, from: Cursor) -> Went
+fn place_order(m: &[u8], v: Service, from: Cursor) -> Cursor
     ensures { λ x. ⌜ RowsDone PAYMUL v (now (m .entry)) 0 (length PAYMUL) from x ⌝ }
 {
     let chart = paymul::chart();
@@ -238,7 +274,7 @@ fn place_order(m: &[u8], v: Service, from: Cursor) -> Went
 }
 
 // The same of the DEBMUL chart.
-fn place_advice(m: &[u8], v: Service, from: Cursor) -> Went
+fn place_advice(m: &[u8], v: Service, from: Cursor) -> Cursor
     ensures { λ x. ⌜ RowsDone DEBMUL v (now (m .entry)) 0 (length DEBMUL) from x ⌝ }
 {
     let chart = debmul::chart();
@@ -246,7 +282,7 @@ fn place_advice(m: &[u8], v: Service, from: Cursor) -> Went
 }
 
 // The same of the chart of a kind of message.
-fn place_kind(m: &[u8], v: Service, kind: Kind, from: Cursor) -> Went
+fn place_kind(m: &[u8], v: Service, kind: Kind, from: Cursor) -> Cursor
     ensures { λ x. ⌜ RowsDone (tableOf kind) v (now (m .entry)) 0 (length (tableOf kind)) from x ⌝ }
 {
     match kind {
@@ -260,16 +296,14 @@ pub fn place(m: &[u8], v: Service, kind: Kind) -> Placed
     ensures { λ x. ⌜ Answers (tableOf kind) v (now (m .entry)) x ⌝ }
 {
     let c = cursor_at(m, 0, v);
-    let w = place_kind(m, v, kind, c);
-    match w {
-        Went::To(d) => {
-            if d.at < m.len() {
-                return Placed::Stuck(d.at);
-            }
-            Placed::Whole
-        }
-        Went::Stuck(at) => Placed::Stuck(at),
+    let d = place_kind(m, v, kind, c);
+    if d.tag == STUCK {
+        return Placed::Stuck(d.at);
     }
+    if d.at < m.len() {
+        return Placed::Stuck(d.at);
+    }
+    Placed::Whole
 }
 
 // The row to try after a row: the one beside it, or after the last of a group the group again.

@@ -6,10 +6,14 @@ use Rattle.amounts.proofs.step.Tie as tie
 use Rattle.amounts.proofs.step.Reads as reads
 use Rattle.amounts.proofs.step.Lts as lts
 use Rattle.amounts.proofs.exchange.Reads as exchange-reads
+use Rattle.amounts.proofs.held.Reads as held-reads
 use Rattle.amounts.proofs.next_order.Reads as next-order-reads
 use Rattle.amounts.proofs.no_order.Reads as no-order-reads
 use Rattle.amounts.proofs.order_moa.Reads as order-moa-reads
 use Rattle.amounts.proofs.payment_moa.Reads as payment-moa-reads
+
+held-requires : tie.Need-held-requires
+held-requires c κs = search (step-lin, step-moa, step-cux, step-paid, step-other, at-lin, at-moa, at-cux, at-paid, at-other, needs)
 
 no-order-requires : tie.Need-no-order-requires
 no-order-requires c κs = search (step-lin, step-moa, step-cux, step-paid, step-other, at-lin, at-moa, at-cux, at-paid, at-other, needs)
@@ -45,6 +49,7 @@ pub step-spec : {M : Type 1} → statement M
 step-spec =
     tie.close
     (tie.spec
+    held-requires
     no-order-requires
     next-order-requires
     returns

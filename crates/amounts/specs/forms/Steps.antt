@@ -19,6 +19,7 @@ use Rattle.message.specs.forms.Run.{testStep, Level}
 use Rattle.message.specs.forms.Counts.{someStep, most}
 use Rattle.amounts.specs.declared.Order.{Order}
 use Rattle.amounts.specs.declared.Amounts.{Amounts}
+use Rattle.amounts.specs.declared.Holds.{Holds}
 
 -- an order from its own MOA on, if there is one: whether a CUX came, and the sum of its payments
 pub record Held : Type 0 where
@@ -140,6 +141,22 @@ abbrev pub orderEnded : Service → List ℕ → Amounts → Order → Amounts
 orderEnded v m st o =
     amountsOf o (st .first22) (lesser (st .first23) (comesBy rule23 (heldOf v m (st .order)))) (lesser (st .first24) (comesBy rule24 (heldOf v m (st .order))))
     (lesser (st .first25) (comesBy rule25 (heldOf v m (st .order)))) (lesser (st .first26) (comesBy rule26 (heldOf v m (st .order))))
+
+abbrev pub holdsOf : Bool → Bool → Bool → Bool → Holds
+holdsOf a b c d = record { qualifier = a; currency = b; exchange = c; total = d }
+
+-- what holds at the end of the order whose MOA stands at i: x tells whether a CUX came, n is the sum of its payments; all of it where no MOA came
+abbrev pub heldBy : Service → List ℕ → Bool → ℕ → Bool → ℕ → Holds
+heldBy v m true i x n =
+    holdsOf (says (valueIn v i m 1 0) "9" || says (valueIn v i m 1 0) "57") (capitals (valueIn v i m 1 2)) (not (says (valueIn v i m 1 0) "57") || x)
+    (eqb (worth (amountOf (valueIn v i m 1 1))) n)
+heldBy v m false i x n = holdsOf true true true true
+
+-- the order at hand ended, of which this holds, and another: what does not hold has its place at the order's MOA
+abbrev pub endedWith : Amounts → Holds → Order → Amounts
+endedWith st h o =
+    amountsOf o (st .first22) (lesser (st .first23) (placeUnless (h .qualifier) (st .order .nth))) (lesser (st .first24) (placeUnless (h .currency) (st .order .nth)))
+    (lesser (st .first25) (placeUnless (h .exchange) (st .order .nth))) (lesser (st .first26) (placeUnless (h .total) (st .order .nth)))
 
 -- the order at hand ended, and none after it
 abbrev pub amountsClose : Service → List ℕ → Amounts → Amounts

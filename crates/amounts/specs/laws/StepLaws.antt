@@ -23,7 +23,8 @@ use Rattle.message.specs.forms.Counts.{someStep, most}
 use Rattle.message.specs.laws.ValueLaws.{empty-code}
 use Rattle.amounts.specs.declared.Order.{Order}
 use Rattle.amounts.specs.declared.Amounts.{Amounts}
-use Rattle.amounts.specs.forms.Steps.{addStep, heldInner, heldStep, firstStep, sumsStep, orderOf, noOrder, amountsOf, sumsStart, sumsOf, sumsClose, ownAt, orderEnded, amountsClose, withForm, exchanged, paid, baseBy, basesBy}
+use Rattle.amounts.specs.declared.Holds.{Holds}
+use Rattle.amounts.specs.forms.Steps.{addStep, heldInner, heldStep, firstStep, sumsStep, orderOf, noOrder, amountsOf, sumsStart, sumsOf, sumsClose, ownAt, orderEnded, holdsOf, heldBy, endedWith, amountsClose, withForm, exchanged, paid, baseBy, basesBy}
 
 -- ---- values
 pub worth-by : (a : Amount) (l : List ℕ) (w : ℕ) → a ≡ amountOf l → w ≡ worth a → w ≡ worth (amountOf l)
@@ -85,26 +86,38 @@ start-by o e = rw e
 pub form-by : (st : Amounts) (t b : Bool) (n : ℕ) (f : First) → t ≡ b → f ≡ lesser (st .first22) (placeUnless t n) → amountsOf (st .order) f (st .first23) (st .first24) (st .first25) (st .first26) ≡ withForm st b n
 form-by st t b n f p q = rw (q, p)
 
-module _ (v : Service) (m : List ℕ) (st : Amounts) (o : Order) where
-  pub ended-idle : st .order .live ≡ false → amountsOf o (st .first22) (st .first23) (st .first24) (st .first25) (st .first26) ≡ orderEnded v m st o
-  ended-idle e = rw (e, lesser-last (st .first23), lesser-last (st .first24), lesser-last (st .first25), lesser-last (st .first26))
+module _ (v : Service) (m : List ℕ) (l x : Bool) (i n : ℕ) where
+  pub held-idle : l ≡ false → holdsOf true true true true ≡ heldBy v m l i x n
+  held-idle e = rw e
 
-  pub ended-live : st .order .live ≡ true → (a b c : Bool) (w : ℕ) (f23 f24 f25 f26 : First)
-      → a ≡ says (valueIn v (st .order .at) m 1 0) "9" || says (valueIn v (st .order .at) m 1 0) "57" → f23 ≡ lesser (st .first23) (placeUnless a (st .order .nth))
-      → b ≡ capitals (valueIn v (st .order .at) m 1 2) → f24 ≡ lesser (st .first24) (placeUnless b (st .order .nth))
-      → c ≡ not (says (valueIn v (st .order .at) m 1 0) "57") || st .order .exchanged → f25 ≡ lesser (st .first25) (placeUnless c (st .order .nth))
-      → w ≡ worth (amountOf (valueIn v (st .order .at) m 1 1)) → f26 ≡ lesser (st .first26) (placeUnless (eqb w (st .order .sum)) (st .order .nth))
-      → amountsOf o (st .first22) f23 f24 f25 f26 ≡ orderEnded v m st o
-  ended-live e a b c w f23 f24 f25 f26 h1 h2 h3 h4 h5 h6 h7 h8 = rw (e, h2, h4, h6, h8, h1, h3, h5, h7)
+  pub held-live : l ≡ true → (a b c : Bool) (w : ℕ) → a ≡ says (valueIn v i m 1 0) "9" || says (valueIn v i m 1 0) "57" → b ≡ capitals (valueIn v i m 1 2)
+      → c ≡ not (says (valueIn v i m 1 0) "57") || x → w ≡ worth (amountOf (valueIn v i m 1 1)) → holdsOf a b c (eqb w n) ≡ heldBy v m l i x n
+  held-live e a b c w h1 h2 h3 h4 = rw (e, h1, h2, h3, h4)
 
-pub close-by : (v : Service) (m : List ℕ) (st : Amounts) (o : Order) (r : Amounts) → o ≡ noOrder → r ≡ orderEnded v m st o → r ≡ amountsClose v m st
-close-by v m st o r e q = rw (q, e)
+pub next-by : (st : Amounts) (h : Holds) (o : Order) (f23 f24 f25 f26 : First)
+    → f23 ≡ lesser (st .first23) (placeUnless (h .qualifier) (st .order .nth)) → f24 ≡ lesser (st .first24) (placeUnless (h .currency) (st .order .nth))
+    → f25 ≡ lesser (st .first25) (placeUnless (h .exchange) (st .order .nth)) → f26 ≡ lesser (st .first26) (placeUnless (h .total) (st .order .nth))
+    → amountsOf o (st .first22) f23 f24 f25 f26 ≡ endedWith st h o
+next-by st h o f23 f24 f25 f26 h1 h2 h3 h4 = rw (h1, h2, h3, h4)
+
+-- what holds of the order at hand, told apart from its end
+module _ (v : Service) (m : List ℕ) (st : Amounts) (h : Holds) (d : h ≡ heldBy v m (st .order .live) (st .order .at) (st .order .exchanged) (st .order .sum)) where
+  ended-turn : (o : Order) (l : Bool) → st .order .live ≡ l → endedWith st h o ≡ orderEnded v m st o
+  ended-turn o true e = rw (d, e)
+  ended-turn o false e = rw (d, e)
+
+  pub ended-held : (o : Order) → endedWith st h o ≡ orderEnded v m st o
+  ended-held o = ended-turn o (st .order .live) refl
+
+  pub close-by : (o : Order) (r : Amounts) → o ≡ noOrder → r ≡ endedWith st h o → r ≡ amountsClose v m st
+  close-by o r e q = q ∙ ended-held o ∙ rw e
 
 pub close-sums : (v : Service) (m : List ℕ) (st r : Amounts) → r ≡ amountsClose v m st → sumsOf v m r ≡ sumsClose v m (sumsOf v m st)
 close-sums v m st r e = rw e
 
-pub moa-by : (v : Service) (m : List ℕ) (st u r : Amounts) (o : Order) (x y : Amount) (n : ℕ) → x ≡ y → u ≡ withForm st (isOf x) n → r ≡ orderEnded v m u o → r ≡ orderEnded v m (withForm st (isOf y) n) o
-moa-by v m st u r o x y n e p q = q ∙ rw (p, e)
+pub moa-by : (v : Service) (m : List ℕ) (st u r : Amounts) (h : Holds) (o : Order) (x y : Amount) (n : ℕ) → x ≡ y → u ≡ withForm st (isOf x) n
+    → h ≡ heldBy v m (st .order .live) (st .order .at) (st .order .exchanged) (st .order .sum) → r ≡ endedWith u h o → r ≡ orderEnded v m (withForm st (isOf y) n) o
+moa-by v m st u r h o x y n e p d q = q ∙ rw (p, e) (ended-held v m (withForm st (isOf y) n) h d o)
 
 pub paid-by : (v : Service) (m : List ℕ) (st u r : Amounts) (x y : Amount) (i n : ℕ) → x ≡ y → u ≡ withForm st (isOf x) n → r ≡ paid v m u i n x → r ≡ paid v m (withForm st (isOf y) n) i n y
 paid-by v m st u r x y i n e p q = q ∙ rw (p, e)
@@ -122,12 +135,12 @@ added-by v m st i n a b c d e x w s f g h1 h2 h3 h4 h5 h6 h7 h8 h9 = rw (h6, h9,
 
 -- ---- a step
 module _ (v : Service) (m : List ℕ) (st : Amounts) (nth row i : ℕ) (r : Amounts) where
-  pub step-lin : row ≡ 17 → (o : Order) → o ≡ noOrder → r ≡ orderEnded v m st o → sumsOf v m r ≡ sumsStep (segAt v m 0 23 0) (sumsOf v m st) (segAt v m nth row i)
+  pub step-lin : row ≡ 17 → (h : Holds) (o : Order) → h ≡ heldBy v m (st .order .live) (st .order .at) (st .order .exchanged) (st .order .sum) → o ≡ noOrder → r ≡ endedWith st h o → sumsOf v m r ≡ sumsStep (segAt v m 0 23 0) (sumsOf v m st) (segAt v m nth row i)
   unfolding sumsStep heldStep firstStep testStep
-  step-lin e o p q = rw (q, p, e)
+  step-lin e h o d p q = rw (close-by v m st h d o r p q, e)
 
-  pub at-lin : row ≡ 17 → (o : Order) → o ≡ noOrder → r ≡ orderEnded v m st o → r .order .at ≡ ownAt (st .order .at) row i
-  at-lin e o p q = rw (q, p, e)
+  pub at-lin : row ≡ 17 → (h : Holds) (o : Order) → o ≡ noOrder → r ≡ endedWith st h o → r .order .at ≡ ownAt (st .order .at) row i
+  at-lin e h o p q = rw (q, p, e)
 
   pub step-moa : row ≡ 23 → r ≡ orderEnded v m (withForm st (isOf (amountOf (valueIn v i m 1 1))) nth) (orderOf true nth i false 0) → sumsOf v m r ≡ sumsStep (segAt v m 0 23 0) (sumsOf v m st) (segAt v m nth row i)
   unfolding sumsStep heldStep firstStep testStep

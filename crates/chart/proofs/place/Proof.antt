@@ -15,14 +15,8 @@ cursor-at-requires c κs = search (sound, whole-over, whole-placed, whole-stuck,
 place-kind-requires : tie.Need-place-kind-requires
 place-kind-requires c κs = search (sound, whole-over, whole-placed, whole-stuck, needs)
 
-enum-known-w : tie.Need-enum-known-w
-enum-known-w c = search (sound, whole-over, whole-placed, whole-stuck, needs)
-
 returns : tie.Need-returns
 returns c = search (sound, whole-over, whole-placed, whole-stuck, needs)
-
-enum-known-w-2 : tie.Need-enum-known-w-2
-enum-known-w-2 c = search (sound, whole-over, whole-placed, whole-stuck, needs)
 
 returns-2 : tie.Need-returns-2
 returns-2 c = search (sound, whole-over, whole-placed, whole-stuck, needs)
@@ -32,12 +26,4 @@ returns-3 c = search (sound, whole-over, whole-placed, whole-stuck, needs)
 
 pub place-spec : {M : Type 1} → statement M
 place-spec =
-    tie.close
-    (tie.spec
-    cursor-at-requires
-    place-kind-requires
-    enum-known-w
-    returns
-    enum-known-w-2
-    returns-2
-    returns-3)
+    tie.close (tie.spec cursor-at-requires place-kind-requires returns returns-2 returns-3)

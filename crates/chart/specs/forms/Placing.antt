@@ -1,18 +1,18 @@
--- What placing rows, and the occurrences of a row, comes to: the machine's run, whatever is to be placed after them.
+-- What placing rows, and one occurrence of a row, comes to: the machine's run, whatever is to be placed after them.
 use mathlib.Core.Path.{_≡_}
 use mathlib.Core.List.{List}
-use mathlib.Core.Bool.{Bool, _&&_ as and}
-use Prim.Native.Nat.{ℕ, zero, _+_}
+use mathlib.Core.Bool.{Bool, true, false, _&&_ as and}
+use Prim.Native.Nat.{ℕ, zero, _+_, _^_, _<_}
 use lib.Dec.{ltb}
 use lib.ListN.{length, getD, drop}
 use Rattle.service.specs.declared.Service.{Service}
 use Rattle.chart.specs.declared.Cursor.{Cursor}
-use Rattle.chart.specs.declared.Went.{Went}
-use Rattle.chart.specs.declared.Went.the-variants.{To, Stuck}
+use Rattle.chart.specs.declared.Turn.{Turn}
+use Rattle.chart.specs.declared.Turn.the-variants.{Takes, Owes, Passes}
 use Rattle.chart.specs.Chart.{Rows}
-use Rattle.chart.specs.forms.Machine.{Frames, frame, stuck, run, takes}
+use Rattle.chart.specs.forms.Machine.{Frames, frame, stuck, run, takes, owed}
 use Rattle.chart.specs.Table.{Table}
-use Rattle.chart.specs.forms.Columns.{firstOf, endOf, rowAt, Is}
+use Rattle.chart.specs.forms.Columns.{tagOf, reqOf, firstOf, endOf, mostOf, rowAt, Is}
 use Rattle.chart.specs.Tags.{tagsOf}
 use Rattle.segments.specs.SegmentList.{startAt}
 use Rattle.chart.specs.forms.Cursor.{Stands}
@@ -28,20 +28,16 @@ RowsTo t lo hi ts i j = (rows : Rows) → Is t lo hi rows → (K : Frames) → r
 abbrev pub RowsNo : Table → ℕ → ℕ → List ℕ → ℕ → ℕ → Type 0
 RowsNo t lo hi ts i j = (rows : Rows) → Is t lo hi rows → (K : Frames) → run (drop i ts) (frame zero rows K) i ≡ stuck j
 
--- the same of the occurrences of the row r, of which n have been had at j
-abbrev pub RowTo : Table → ℕ → List ℕ → ℕ → ℕ → ℕ → Type 0
-RowTo t r ts i n j =
-    (kids rest : Rows) → Is t (firstOf t r + 1) (endOf t r) kids → (K : Frames)
-    → run (drop i ts) (frame zero (rowAt t r kids rest) K) i ≡ run (drop j ts) (frame n (rowAt t r kids rest) K) j
+-- the same of one occurrence more of the row r, of which n have been had
+abbrev pub OnceTo : Table → ℕ → List ℕ → ℕ → ℕ → Type 0
+OnceTo t r ts i j =
+    (n : ℕ) → n < mostOf t r → (kids rest : Rows) → Is t (firstOf t r + 1) (endOf t r) kids → (K : Frames)
+    → run (drop i ts) (frame n (rowAt t r kids rest) K) i ≡ run (drop j ts) (frame (n + 1) (rowAt t r kids rest) K) j
 
-abbrev pub RowPast : Table → ℕ → List ℕ → ℕ → ℕ → Type 0
-RowPast t r ts i j =
-    (kids rest : Rows) → Is t (firstOf t r + 1) (endOf t r) kids → (K : Frames)
-    → run (drop i ts) (frame zero (rowAt t r kids rest) K) i ≡ run (drop j ts) (frame zero rest K) j
-
-abbrev pub RowNo : Table → ℕ → List ℕ → ℕ → ℕ → Type 0
-RowNo t r ts i j =
-    (kids rest : Rows) → Is t (firstOf t r + 1) (endOf t r) kids → (K : Frames) → run (drop i ts) (frame zero (rowAt t r kids rest) K) i ≡ stuck j
+abbrev pub OnceNo : Table → ℕ → List ℕ → ℕ → ℕ → Type 0
+OnceNo t r ts i j =
+    (n : ℕ) → n < mostOf t r → (kids rest : Rows) → Is t (firstOf t r + 1) (endOf t r) kids → (K : Frames)
+    → run (drop i ts) (frame n (rowAt t r kids rest) K) i ≡ stuck j
 
 -- from a cursor to the cursor d, or to where no message goes on
 pub record RowsPass (t : Table) (v : Service) (m : List ℕ) (lo hi : ℕ) (from d : Cursor) : Type 0 where
@@ -50,16 +46,31 @@ pub record RowsPass (t : Table) (v : Service) (m : List ℕ) (lo hi : ℕ) (from
 pub record RowsStop (t : Table) (v : Service) (m : List ℕ) (lo hi : ℕ) (from : Cursor) (p : ℕ) : Type 0 where
   pub stop : (i : ℕ) → Stands v m i from → (j : ℕ) × (p ≡ startAt v m j) × RowsNo t lo hi (tagsOf v m) i j
 
-abbrev pub RowsDone : Table → Service → List ℕ → ℕ → ℕ → Cursor → Went → Type 0
-RowsDone t v m lo hi from (To d) = RowsPass t v m lo hi from d
-RowsDone t v m lo hi from (Stuck p) = RowsStop t v m lo hi from p
+pub data RowsDone (t : Table) (v : Service) (m : List ℕ) (lo hi : ℕ) (from d : Cursor) : Type 0 where
+  rows-passed : RowsPass t v m lo hi from d → RowsDone t v m lo hi from d
+  rows-stopped : d .tag ≡ 2 → RowsStop t v m lo hi from (d .at) → RowsDone t v m lo hi from d
 
-pub record RowPass (t : Table) (v : Service) (m : List ℕ) (r : ℕ) (from d : Cursor) : Type 0 where
-  pub pass : (i : ℕ) → Stands v m i from → (j : ℕ) × Stands v m j d × RowPast t r (tagsOf v m) i j
+pub record OncePass (t : Table) (v : Service) (m : List ℕ) (r : ℕ) (from d : Cursor) : Type 0 where
+  pub pass : (i : ℕ) → Stands v m i from → (j : ℕ) × Stands v m j d × OnceTo t r (tagsOf v m) i j
 
-pub record RowStop (t : Table) (v : Service) (m : List ℕ) (r : ℕ) (from : Cursor) (p : ℕ) : Type 0 where
-  pub stop : (i : ℕ) → Stands v m i from → (j : ℕ) × (p ≡ startAt v m j) × RowNo t r (tagsOf v m) i j
+pub record OnceStop (t : Table) (v : Service) (m : List ℕ) (r : ℕ) (from : Cursor) (p : ℕ) : Type 0 where
+  pub stop : (i : ℕ) → Stands v m i from → (j : ℕ) × (p ≡ startAt v m j) × OnceNo t r (tagsOf v m) i j
 
-abbrev pub RowDone : Table → Service → List ℕ → ℕ → Cursor → Went → Type 0
-RowDone t v m r from (To d) = RowPass t v m r from d
-RowDone t v m r from (Stuck p) = RowStop t v m r from p
+pub data OnceDone (t : Table) (v : Service) (m : List ℕ) (r : ℕ) (from d : Cursor) : Type 0 where
+  once-passed : OncePass t v m r from d → OnceDone t v m r from d
+  once-stopped : d .tag ≡ 2 → OnceStop t v m r from (d .at) → OnceDone t v m r from d
+
+-- what a row that has been had n times makes of the segment at c: it is had once more, it is owed, or it is passed
+pub record Taken (t : Table) (r n : ℕ) (c : Cursor) : Type 0 where
+  pub tag : c .tag ≡ tagOf t r
+  pub few : n < mostOf t r
+  pub fits : n + 1 < 2 ^ 64
+
+pub record Untaken (t : Table) (r n : ℕ) (c : Cursor) (o : Bool) : Type 0 where
+  pub not : takes (c .tag) n (tagOf t r) (mostOf t r) ≡ false
+  pub owes : owed (reqOf t r) n ≡ o
+
+abbrev pub TurnIs : Table → ℕ → ℕ → Cursor → Turn → Type 0
+TurnIs t r n c Takes = Taken t r n c
+TurnIs t r n c Owes = Untaken t r n c true
+TurnIs t r n c Passes = Untaken t r n c false

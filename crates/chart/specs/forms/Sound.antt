@@ -44,7 +44,13 @@ heads t r =
     (and (childless (suc r) t)
     (and (eqb (tagOf t (suc r)) (tagOf t r)) (and (required (statusOf t (suc r))) (eqb (repeatsOf t (suc r)) 1)))))
 
+-- 'The message is such a group, opened by UNH': its own row has all the others inside it, is required, and comes once
+unfoldable pub alone : Table → Bool
+alone t = and (ltb 0 (length t)) (and (eqb (endOf t 0) (length t)) (and (reqOf t 0) (eqb (mostOf t 0) 1)))
+
 pub record Sound (t : Table) : Type 0 where
+  -- all rows are the message's
+  pub whole : T (alone t)
   -- the lines nest as the tree does, in its order
   pub nested : T (nests t 0 (length t) (chartOf t))
   -- each group begins with its first segment

@@ -1,10 +1,10 @@
 -- The next cursor, by the segment at this one.
 use Rattle.chart.specs.laws.CursorLaws.{stepped-next, stepped-end, stepped-nothing}
 use borrow.Author.Needs.{needs}
-use Rattle.chart.proofs.step.Statement.{statement}
-use Rattle.chart.proofs.step.Tie as tie
-use Rattle.chart.proofs.step.Reads as reads
-use Rattle.chart.proofs.step.Lts as lts
+use Rattle.chart.proofs.after.Statement.{statement}
+use Rattle.chart.proofs.after.Tie as tie
+use Rattle.chart.proofs.after.Reads as reads
+use Rattle.chart.proofs.after.Lts as lts
 use Rattle.chart.proofs.cursor_at.Reads as cursor-at-reads
 use Rattle.segments.proofs.segment_at.Reads as segment-at-reads
 
@@ -32,8 +32,8 @@ returns-2 c = search (stepped-next, stepped-end, stepped-nothing, needs)
 returns-3 : tie.Need-returns-3
 returns-3 c = search (stepped-next, stepped-end, stepped-nothing, needs)
 
-pub step-spec : {M : Type 1} → statement M
-step-spec =
+pub after-spec : {M : Type 1} → statement M
+after-spec =
     tie.close
     (tie.spec
     segment-at-requires
