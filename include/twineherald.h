@@ -12,7 +12,8 @@
  *  - a pointer is valid for as many bytes or numbers as the length beside it says, for the time of
  *    the call; with a length of 0 it is not read and may be anything, NULL too;
  *  - a list of numbers or of steps is aligned for them, as any C array of them is;
- *  - what is lent for output overlaps neither what is lent for reading nor another output.
+ *  - what is lent for output overlaps neither what is lent for reading nor another output;
+ *  - 3 KiB of stack are left for a call: none uses more (on x86-64; this is measured and not proved).
  *
  * Nothing is kept after a call returns. There is no state, no allocation and no input or output, so
  * calls may be made from several threads at once.
