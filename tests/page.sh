@@ -1,0 +1,170 @@
+# Sourced by the gate: the page that the program writes of each sample, as tests/page.rs reads it. $program is the command, $how says
+# which build it is, $pages how many inputs of any bytes it gets as well (0: none), $second the second program, if its answers to them
+# are to be compared. What is expected of the samples stands in samples/*.txt.
+if [ -z "${reader:-}" ]; then
+    reader=target/page
+    rustc -O --edition 2021 tests/page.rs -o $reader && good "page reader builds" || bad "page reader builds"
+fi
+# The lines of the outline for messages, opening and end. An order or an advice is one by its UNH.
+page_wants() { # SAMPLE without ending
+    awk -v types="$(LC_ALL=C grep -aoE '(PAY|DEB)MUL' "$1.edi" | tr '\n' ' ')" '
+        BEGIN { split(types, type, " ") }
+        $1 == "OPEN" { print "opening", $3 }
+        $1 == "MSG" && $3 == "NO" { print }
+        $1 == "MSG" && $3 == "OK" { print "MSG", $2, "OK", type[$2] == "DEBMUL" ? "advice" : "order", $5, $6 }
+        $1 == "END" { print "END", $2, $4, $5 }' "$1.txt"
+}
+page_status() { # SAMPLE without ending -> expected status
+    if [ "$(basename "$1")" = refused_14_b ]; then echo 0; return; fi
+    if page_wants "$1" | grep -qE '^opening|^MSG [0-9]+ NO|^END [0-9]+ [0-9]+ [^0]'; then echo 1; else echo 0; fi
+}
+# Every marked segment stands in the file at the offset; under number 10 the byte there is marked.
+page_here() { # SAMPLE without ending, OUTLINE
+    awk '/^MSG/ { place = $2; number = $4; offset = $6 }
+        /^  mark / && number == 10 || /^  here / && number != 10 { print place, number, offset, substr($0, 8) }' "$2" |
+        while read -r place number offset text; do
+            unh=$(LC_ALL=C grep -abo UNH "$1.edi" | sed -n "${place}s/:.*//p")
+            tail -c +$((unh + offset + 1)) "$1.edi" >"$log/from"
+            if [ "$number" = 10 ]; then
+                [ "$text" = "$(head -c 1 "$log/from" | od -An -tx1 | tr a-f A-F | sed 's/ */\\x/')" ] || exit 1
+            else
+                [ "$(head -c ${#text} "$log/from")" = "$text" ] || exit 1
+            fi
+        done
+}
+for edi in samples/*.edi; do
+    name=${edi%.edi}
+    $program page "$edi" >"$log/page.html" 2>"$log/err"
+    got=$?
+    ok=1
+    [ "$got" = "$(page_status "$name")" ] || ok=0
+    $reader check "$log/page.html" || ok=0
+    $reader outline "$log/page.html" >"$log/outline" || ok=0
+    case $(basename "$name") in
+    refused_14 | refused_14_b | open_1) ;; # its lists and its room are longer than the report's
+    *)
+        grep -E '^(opening|MSG|END) ' "$log/outline" | diff - <(page_wants "$name") || ok=0
+        page_here "$name" "$log/outline" || ok=0
+        ;;
+    esac
+    if [ "$ok" = 1 ] && [ ! -s "$log/err" ]; then good "page $edi, $how"; else bad "page $edi, $how (status $got)"; cat "$log/outline" "$log/err"; fi
+done
+# Amounts, added up by hand: 1250,25 + 500.25; 1750 + ,5; 1999,999 + 500.001, and 0,1 + 0,2. Of an advice they are as written.
+while IFS='|' read -r name amounts; do
+    $program page "samples/$name.edi" >"$log/page.html"
+    have=$($reader outline "$log/page.html" | sed -n 's/^  \(order\|debit\|payment\) //p' | tr '\n' '|')
+    if [ "$have" = "$amounts" ]; then good "page: amounts of $name, $how"; else bad "page: amounts of $name, $how: $have"; fi
+done <<'END'
+good|1750.500 EUR|1250,25 EUR|500.25 EUR|300.000 EUR|300 EUR|
+half|1750.500 EUR|1750 EUR|,5 EUR|0.750 EUR|.750 EUR|
+equivalent|2500.000 EUR|1999,999 EUR|500.001 EUR|800.000 EUR|800,000 EUR|0.300 EUR|0,1 EUR|0,2 EUR|
+advice|1750,5 EUR|1250,25 EUR|500,25 EUR|300 EUR|
+END
+# The reader refuses a page with any one of these changes.
+missed='' changes=0
+for name in good damaged_lin open_4; do $program page "samples/$name.edi" >"$log/$name.html"; done
+while read -r name change; do
+    LC_ALL=C sed "$change" "$log/$name.html" >"$log/changed.html"
+    changes=$((changes + 1))
+    $reader check "$log/changed.html" >"$log/out"
+    [ $? = 1 ] && ! cmp -s "$log/$name.html" "$log/changed.html" || missed="$missed; $name $change"
+    [ -z "${wordy:-}" ] || echo "$name $change: $(cat "$log/out")"
+done <<'END'
+good s|<!DOCTYPE html>|<!doctype html>|
+good s|</html>|</html>x|
+good s|<html lang="en">|<html>|
+good s|<meta charset="utf-8">||
+good s|width=device-width|width=980|
+good s|</title>|<em></em></title>|
+good s|<style>|<style>@import "x";|
+good s|<style>|<style>p { background: u\\72 l(x); }|
+good s|<style>|<style></style><style>|
+good s|</h1>||
+good s|</h1>|</h2>|
+good s|<h1>|<H1>|
+good s|<h1>|<h1 onclick="x">|
+good s|<h1>|<h1 style="color: red">|
+good s|<h1>|<h1 class=file>|
+good s|<h1>|<h1 class="a" class="b">|
+good s|<h1>|<h1 class="<">|
+good s|<h1>|<h1><script></script>|
+good s|<h1>|<h1><img>|
+good s|<h1>|<h1><p></p>|
+good s|<h1>|<h1><li></li>|
+good s|<h1>|<h1><!-- -->|
+good s|<h1>|<h1 id="a"><span id="a"></span>|
+good s|<h1>|<h1><a href="#nowhere">x</a>|
+good s|<h1>|<h1><a href="//x">x</a>|
+good s|</h1>|\&copy;</h1>|
+good s|</h1>|\& </h1>|
+good s|</h1>|\&#0;</h1>|
+good s|</h1>|\&#150;</h1>|
+good s|</h1>|\&#55296;</h1>|
+good s|</h1>|\&#1114112;</h1>|
+good s|</h1>|a > b</h1>|
+good s|</h1>|\xc3\xa9</h1>|
+good s|</h1>|\x09</h1>|
+good s|</h1>|\x00</h1>|
+good s|</h1>|</h1><dd></dd>|
+good s|</h1>|</h1><table><tr></tr></table>|
+good s|</h1>|</h1><header></header>|
+good s|</h1>|</h1><ul>x</ul>|
+good s|<dt>|<dt><div></div>|
+good s|<dl class="envelope">|<dl class="envelope"><dt></dt>|
+good s|<main>|<main><main></main>|
+good s|verdict accepted|verdict refused|
+good s|verdict accepted|verdict|
+good s|message accepted|message good|
+good s|data-kind="order"|data-kind="advice"|
+good s|data-place="1"|data-place="2"|
+good s|data-messages="1"|data-messages="2"|
+good s|data-strays="0"|data-strays="1"|
+good s|closing accepted|closing refused|
+good s|1750\.500 EUR|1750.501 EUR|
+good s|500\.25 EUR|500.25 USD|
+good s|class="total"|class="sum"|
+damaged_lin s|data-segment="13"|data-segment="12"|
+damaged_lin s|data-number="16"|data-number="17"|
+damaged_lin s|data-number="16"|data-number="32"|
+damaged_lin s|data-offset="261"|data-offset=""|
+damaged_lin s|class="here"|class="there"|
+damaged_lin s|<mark>|<mark></mark><mark>|
+damaged_lin s|<mark>[^<]*</mark>|<mark></mark>|
+damaged_lin s|class="instead"|class="else"|
+damaged_lin s|<p class="do">|<p class="done">|
+damaged_lin s|value="12"|value="11"|
+open_4 s|</main>|</main><footer class="closing accepted" data-messages="0" data-strays="0" data-number="0"></footer>|
+open_4 s|data-number="4"|data-number="5"|
+open_4 s|opening refused|opening accepted|
+END
+if [ -z "$missed" ]; then good "page reader refuses $changes changed pages, $how"; else bad "page reader takes a changed page, $how$missed"; fi
+# From standard input the same is said; no file, or none that can be read, is trouble.
+$program page - <samples/damaged_lin.edi >"$log/page.html" 2>"$log/err"
+got=$?
+if [ "$got" = 1 ] && [ ! -s "$log/err" ] && diff <($reader outline "$log/page.html") <($reader outline "$log/damaged_lin.html"); then
+    good "page: standard input, $how"
+else
+    bad "page: standard input, $how (status $got)"
+fi
+$program page >"$log/out" 2>/dev/null; [ $? = 2 ] && [ ! -s "$log/out" ] && good "page: usage, $how" || bad "page: usage, $how"
+$program page samples/none >"$log/out" 2>/dev/null; [ $? = 2 ] && [ ! -s "$log/out" ] && good "page: no such file, $how" || bad "page: no such file, $how"
+# A page that cannot be written is trouble as well.
+$program page samples/good.edi >/dev/full 2>/dev/null; [ $? = 2 ] && good "page: no room for it, $how" || bad "page: no room for it, $how"
+# The name of a file may be anything.
+odd="$log/<b>&amp;\"'"$'\n\t\xff\xc3\xa9\xed\xa0\x80.edi'
+cp samples/damaged_lin.edi "$odd"
+$program page "$odd" >"$log/page.html"
+if $reader check "$log/page.html" && diff <($reader outline "$log/page.html") <($reader outline "$log/damaged_lin.html"); then
+    good "page: an odd name, $how"
+else
+    bad "page: an odd name, $how"
+fi
+# Any bytes.
+if [ "${pages:-0}" -gt 0 ]; then
+    if timeout 900 $reader any "$pages" "${seed:-1}" ${second:+--second "$second"} $program >"$log/any" 2>&1; then
+        good "page: $(tail -n 1 "$log/any"), $how"
+    else
+        tail -n 20 "$log/any" | cut -c1-400
+        bad "page: any bytes, $how"
+    fi
+fi
