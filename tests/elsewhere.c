@@ -1,7 +1,8 @@
-/* The calls that examples/host.c makes, for a machine that cannot run the library itself: each call is made by the
- * comparison's driver in a process of its own. TWINEHERALD_DRIVER is the command that starts it. So the host runs under this
- * machine's own sanitizers, which also see every byte that is read or written here of what the host lent. */
+/* The calls that the desk's program makes, for a machine that cannot run the library itself: each call is made by the
+ * comparison's driver in a process of its own. TWINEHERALD_DRIVER is the command that starts it. So the program runs under this
+ * machine's own sanitizers, which also see every byte that is read or written here of what the program lent. */
 #define _POSIX_C_SOURCE 200809L
+#include <fcntl.h>
 #include <stdio.h>
 #include <stdlib.h>
 #include <string.h>
@@ -37,7 +38,7 @@ static void put_bytes(FILE *f, const uint8_t *bytes, size_t length)
         fail("cannot write");
 }
 
-/* Looks at all that the host says it lends for output: a pointer that is not valid for its length is seen here. */
+/* Looks at all that the program says it lends for output: a pointer that is not valid for its length is seen here. */
 static void lent(const void *list, size_t size)
 {
     const volatile uint8_t *bytes = list;
@@ -52,12 +53,26 @@ static void lent_lists(const uint16_t *rows, size_t r, const uint32_t *starts, s
     lent(totals, t * sizeof *totals);
 }
 
+/* A pipe whose ends are none of the standard streams, of which one may be closed. */
+static void open_pipe(int ends[2])
+{
+    if (pipe(ends) != 0)
+        fail("no pipe");
+    for (int i = 0; i < 2; i++) {
+        int end = fcntl(ends[i], F_DUPFD, 3);
+        close(ends[i]);
+        ends[i] = end;
+    }
+    if (ends[0] < 0 || ends[1] < 0)
+        fail("no pipe");
+}
+
 /* Starts a call; the bytes are lent first. */
 static call begin(const uint8_t *bytes, size_t length)
 {
     int in[2], out[2];
-    if (pipe(in) != 0 || pipe(out) != 0)
-        fail("no pipe");
+    open_pipe(in);
+    open_pipe(out);
     call c = {NULL, NULL, fork()};
     if (c.process < 0)
         fail("no process");
