@@ -7,7 +7,7 @@
 #include "print.h"
 #include "walker.h"
 
-enum { MOST_SHOWN = 90, MOST_OF_STRAY = 60 };
+enum { MOST_SHOWN = 90, MOST_OF_STRAY = 60, MOST_OF_EDGE = 60 };
 
 static struct {
     uint32_t files_accepted, files_refused, files_unread;
@@ -21,11 +21,11 @@ static void print_order(const walker *w, uint32_t order, uint32_t lin)
     uint64_t total = w->totals[order];
 
     printf("    order ");
-    print_bytes(component(listed_segment(w, lin), 1, 1, w->m));
+    print_value(component(listed_segment(w, lin), 1, 1, w->m), w->m);
     printf(": %" PRIu64 ".%03" PRIu64, total / 1000, total % 1000);
     if (moa < w->step.report.segments) {
         putchar(' ');
-        print_bytes(component(listed_segment(w, moa), 1, 3, w->m));
+        print_value(component(listed_segment(w, moa), 1, 3, w->m), w->m);
     }
     putchar('\n');
 }
@@ -178,6 +178,19 @@ static uint32_t check_closing(const walker *w)
     return 1;
 }
 
+/* The beginning of a file that does not open, or its end, if that is what is wrong. */
+static void print_edge(slice file, int at_end)
+{
+    slice shown = shown_of(file, at_end ? file.length : 0, MOST_OF_EDGE);
+
+    if (file.length == 0)
+        return;
+    printf("The file %s", at_end ? "ends with: " : "begins with: ");
+    printf("%s", shown.first > file.first ? "..." : "");
+    print_bytes(shown);
+    printf("%s\n", shown.first + shown.length < file.first + file.length ? "..." : "");
+}
+
 int check_file(const char *path, slice file)
 {
     uint32_t number = twineherald_open(file.first, file.length);
@@ -187,6 +200,7 @@ int check_file(const char *path, slice file)
     printf("File %s\n", name_of(path));
     if (number != TWINEHERALD_ACCEPTED) {
         print_refusal("The whole file is ", number, 0);
+        print_edge(file, number == TWINEHERALD_UNFINISHED);
         print_advice(number, 0);
     } else {
         if (!begin_walk(&w, file))

@@ -66,7 +66,7 @@ static const struct {
     {"MOA", "", "Amount"},
     {"FTX", "PMD", "Text for the payee"},
     {"FTX", "", "Text"},
-    {"CNT", "2", "Orders counted"},
+    {"CNT", "2", "Lines counted"},
     {"CNT", "", "Count"},
     {"AJT", "", "Adjustment"},
     {"ALC", "", "Allowance or charge"},
@@ -100,11 +100,27 @@ static const struct {
     uint32_t element, component;
     const char *words;
 } before[] = {
-    {"BUS", 1, 1, NULL},    {"CTA", 1, 1, NULL},    {"CUX", 1, 1, NULL},    {"CUX", 2, 1, NULL},  {"DTM", 1, 3, NULL},
-    {"FII", 3, 2, NULL},    {"FII", 3, 3, NULL},    {"FII", 3, 5, NULL},    {"FII", 3, 6, NULL},  {"LIN", 1, 1, NULL},
-    {"NAD", 2, 2, NULL},    {"NAD", 2, 3, NULL},    {"SEQ", 2, 1, NULL},    {"CUX", 1, 2, "from "}, {"CUX", 1, 4, "base "},
-    {"CUX", 2, 2, "to "},   {"CUX", 2, 4, "base "}, {"CUX", 3, 1, "rate "}, {"FII", 2, 4, "in "}, {"FII", 3, 4, "branch "},
+    {"BUS", 1, 1, NULL},
+    {"CTA", 1, 1, NULL},
+    {"CUX", 1, 1, NULL},
+    {"CUX", 1, 2, "from "},
+    {"CUX", 1, 4, "base "},
+    {"CUX", 2, 1, NULL},
+    {"CUX", 2, 2, "to "},
+    {"CUX", 2, 4, "base "},
+    {"CUX", 3, 1, "rate "},
+    {"DTM", 1, 3, NULL},
+    {"FII", 2, 4, "in "},
+    {"FII", 3, 2, NULL},
+    {"FII", 3, 3, NULL},
+    {"FII", 3, 4, "branch "},
+    {"FII", 3, 5, NULL},
+    {"FII", 3, 6, NULL},
+    {"LIN", 1, 1, NULL},
+    {"NAD", 2, 2, NULL},
+    {"NAD", 2, 3, NULL},
     {"RFF", 1, 3, "line "},
+    {"SEQ", 2, 1, NULL},
 };
 
 /* What a code means, as the guides say it. */

@@ -109,7 +109,7 @@ void put_advice(uint32_t number)
 
 void put_cut(int is_cut)
 {
-    printf(is_cut ? "<span class=\"more\">...</span>" : "");
+    fputs(is_cut ? "<span class=\"more\">...</span>" : "", stdout);
 }
 
 void put_shown(slice bytes, size_t place, size_t most)

@@ -18,7 +18,7 @@ static void add_bytes(trials *t, const void *bytes, size_t length)
     t->length += length;
 }
 
-/* The message up to the refused segment, then a segment of that tag, then an UNT. */
+/* The message up to the refused segment, then a segment of that tag, then a UNT. */
 static void add_trial(trials *t, slice front, const char *tag, marks m)
 {
     t->positions[t->count] = t->length;
@@ -48,7 +48,7 @@ static size_t ask(const trials *t, uint32_t segment, const char **tags)
     return count;
 }
 
-/* The tags of a chart, each once, in the chart's order; an UNH begins another message. */
+/* The tags of a chart, each once, in the chart's order; a UNH begins another message. */
 static size_t tags_of(const chart *c, const char *tags[MOST_TAGS])
 {
     size_t count = 0;

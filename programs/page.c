@@ -24,7 +24,7 @@ static void put_message(const walker *w)
     else
         printf(" data-number=\"%" PRIu32 "\" data-segment=\"%" PRIu32 "\" data-offset=\"%" PRIu32 "\">\n", report->number, report->segment,
                report->offset);
-    printf("<div class=\"head\"><h2>Message %" PRIu32 "%s</h2><p class=\"word\">%s</p></div>\n<p class=\"counts\">", w->place,
+    printf("<div class=\"head\"><h2>Message %" PRIu32 "%s</h2>\n<p class=\"word\">%s</p></div>\n<p class=\"counts\">", w->place,
            !accepted ? "" : advice ? ": debit advice" : ": payment orders", accepted ? "accepted" : "refused");
     printf("Reference ");
     put_value(component(segment_at(message_of(w), 0, w->m), 1, 1, w->m), w->m);
@@ -66,7 +66,7 @@ static void put_closing(const walker *w, twineherald_closing closing)
 
     printf("<footer class=\"closing %s\" data-messages=\"%" PRIu32 "\" data-strays=\"%" PRIu32 "\" data-number=\"%" PRIu32 "\">\n",
            accepted ? "accepted" : "refused", closing.messages, closing.strays, closing.number);
-    printf("<div class=\"head\"><h2>The end of the file</h2><p class=\"word\">%s</p></div>\n<p>The file holds ",
+    printf("<div class=\"head\"><h2>The end of the file</h2>\n<p class=\"word\">%s</p></div>\n<p>The file holds ",
            accepted ? "accepted" : "refused");
     put_count(closing.messages, "message");
     printf(" and ");
@@ -82,7 +82,7 @@ static void put_closing(const walker *w, twineherald_closing closing)
 
 static void put_fact(const char *label, slice value, marks m)
 {
-    printf("<div><dt>%s</dt><dd>", label);
+    printf("<div><dt>%s</dt>\n<dd>", label);
     put_value(value, m);
     printf("</dd></div>\n");
 }
@@ -93,7 +93,7 @@ static void put_date_and_time(slice date, slice time, marks m)
     const char *d = (const char *)date.first;
     const char *t = (const char *)time.first;
 
-    printf("<div><dt>Date (year first)</dt><dd>");
+    printf("<div><dt>Date (year first)</dt>\n<dd>");
     if (is_digits(date, 6) && is_digits(time, 4)) {
         printf("%.2s-%.2s-%.2s, %.2s:%.2s", d, d + 2, d + 4, t, t + 2);
     } else {

@@ -55,13 +55,28 @@ void print_advice(uint32_t number, size_t indent)
     print_text(words, advice_on(number), indent);
 }
 
+/* A byte outside plain text as \xNN; gives how many columns it takes. */
+static int print_byte(uint8_t byte)
+{
+    if (byte < 0x20 || byte > 0x7E)
+        return printf("\\x%02X", (unsigned)byte);
+    putchar(byte);
+    return 1;
+}
+
 int print_bytes(slice bytes)
 {
     int columns = 0;
 
-    for (size_t k = 0; k < bytes.length; k++) {
-        int is_plain = bytes.first[k] >= 0x20 && bytes.first[k] <= 0x7E;
-        columns += printf(is_plain ? "%c" : "\\x%02X", (unsigned)bytes.first[k]);
-    }
+    for (size_t k = 0; k < bytes.length; k++)
+        columns += print_byte(bytes.first[k]);
     return columns;
+}
+
+void print_value(slice value, marks m)
+{
+    size_t at = 0;
+
+    for (int byte = next_byte(value, &at, m); byte >= 0; byte = next_byte(value, &at, m))
+        print_byte((uint8_t)byte);
 }

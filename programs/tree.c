@@ -33,15 +33,15 @@ static uint32_t put_facts(const walker *w, uint32_t k, uint32_t end, level of)
         slice segment = listed_segment(w, k);
         if (is_told_above(w, k, of))
             continue;
-        printf(is_open ? "" : "<dl class=\"facts\">\n");
+        fputs(is_open ? "" : "<dl class=\"facts\">\n", stdout);
         is_open = 1;
         printf("<div class=\"in%u\"><dt>", depth < 3 ? depth : 3);
         put_label(segment, tag, w->m);
-        printf("</dt><dd>");
+        printf("</dt>\n<dd>");
         put_values(segment, tag, w->m);
         printf("</dd></div>\n");
     }
-    printf(is_open ? "</dl>\n" : "");
+    fputs(is_open ? "</dl>\n" : "", stdout);
     return k;
 }
 
@@ -85,9 +85,11 @@ static void put_total(const walker *w, uint32_t k, uint32_t end, uint32_t order)
 /* The payment whose SEQ is segment k. */
 static void put_payment(const walker *w, uint32_t k, uint32_t end)
 {
+    slice number = component(listed_segment(w, k), 2, 1, w->m);
+
     printf("<li class=\"payment\"><h4><span>%s ", is_advice(w) ? "Transaction" : "Payment");
-    put_value(component(listed_segment(w, k), 2, 1, w->m), w->m);
-    printf("</span>");
+    put_value(number, w->m);
+    printf("%s</span>", number.length == 0 ? "without a number" : "");
     put_first_amount(w, k, end);
     printf("</h4>\n");
     put_facts(w, k, end, OF_PAYMENT);

@@ -1,5 +1,5 @@
 # Sourced by the gate: Chromium shows the pages of some samples. It mends nothing in them, nothing is wider than the window of a phone or
-# a desk, no text is too small, the mark can be seen, and they can be printed. Skipped where there is no Chromium and none can be had.
+# a desk, no text is too small, the mark can be seen, and they can be printed. Skipped where there is no Chromium that starts and none can be had.
 browser_samples="good order_and_advice damaged_lin refused_10 open_4 released markup"
 [ -n "${reader:-}" ] || { rustc -O --edition 2021 tests/page.rs -o target/page && reader=target/page; }
 browser() { timeout 60 chromium --headless --no-sandbox --disable-gpu --hide-scrollbars --user-data-dir="$log/chromium" "$@" 2>/dev/null; }
@@ -51,9 +51,15 @@ browser_page() { # NAME: shown and printed
         tr -s ' \n' ' ' <"$log/printed" | grep -qF "$total" || { echo "not printed: $total"; exit 1; }
     done
 }
+browser_starts() { # a page of one word is shown
+    echo '<!DOCTYPE html><title>word</title><p id="word">word</p>' >"$log/word.html"
+    browser --dump-dom "file://$log/word.html" | grep -q 'id="word"'
+}
 browser_install() { timeout 300 apt-get update && timeout 900 apt-get install -y --no-install-recommends chromium; }
 if ! command -v chromium >/dev/null && ! browser_install >"$log/apt" 2>&1; then
     echo "skipped: no Chromium here, and none can be installed"
+elif ! browser_starts; then
+    echo "skipped: Chromium is here, and does not start"
 else
     names=''
     for name in $browser_samples; do

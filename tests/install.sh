@@ -119,6 +119,12 @@ need pkg-config pkg-config && need_cxx || { bad "install: pkg-config and $CXX"; 
 package() { PKG_CONFIG_LIBDIR=$prefix/lib/pkgconfig pkg-config "$@" twineherald; }
 packaged() { [ "$(package --modversion)" = "$version" ] && [ "$(package --variable=prefix)" = "$prefix" ]; }
 holds "pkg-config tells the version" packaged
+# The example of the manual is C that compiles.
+manual() {
+    { echo '#include <twineherald.h>'; sed -n '/^static uint16_t rows/,/^\.EE$/p' "$prefix/share/man/man3/twineherald.3" | sed '$d'; } >"$log/elsewhere/manual.c"
+    grep -q twineherald_walk "$log/elsewhere/manual.c" && $CC -std=c11 -Wall -Wextra -Werror -c $(package --cflags) "$log/elsewhere/manual.c" -o "$log/elsewhere/manual.o"
+}
+holds "the example in twineherald.3 compiles" manual
 # The lines of host by the report of payreport. Kinds and totals stand in no report: the host's lines are compared without them.
 wanted() {
     awk '$3 == "OK" { print "message " $2 ": accepted, " $4 " segments, " $5 " LIN, " $6 " SEQ" }

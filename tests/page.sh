@@ -60,6 +60,36 @@ half|1750.500 EUR|1750 EUR|,5 EUR|0.750 EUR|.750 EUR|
 equivalent|2500.000 EUR|1999,999 EUR|500.001 EUR|800.000 EUR|800,000 EUR|0.300 EUR|0,1 EUR|0,2 EUR|
 advice|1750,5 EUR|1250,25 EUR|500,25 EUR|300 EUR|
 END
+# What the page says of values, in its order: read by hand from the samples and the guides.
+missed=''
+while IFS='|' read -r name words; do
+    $program page "samples/$name.edi" >"$log/page.html"
+    $reader text "$log/page.html" | tr '\n' ' ' | grep -qF -- "$words" || missed="$missed; $name: $words"
+done <<'END'
+good|From CLEANWELLS To ORDERBANK Date (year first) 24-03-06, 07:05 Reference CWF0306 Message 1: payment orders accepted Reference 1, 41 segments, 2 orders, 3 payments, at byte offset 52 of the file
+good|Payment order CWF20240306, original (9) Dated 2024-03-06 Receiver of the message WATRDEFF Sender of the message 4000000000013 Order 1
+good|Order 1 1750.500 EUR Execution requested 2024-03-08 Payment order number CWF-0301 Amount payable 1750,5 EUR Account debited DE00100200300400500600, CLEAN WELLS FUND, BREMEN Payment 1
+good|Payment 1 1250,25 EUR Customer's reference CWF-0301-1 Payment reference INVOICE 2207 Account paid DE00200300400500600700, DEEP BORE DRILLING, KASSEL Details are given as documents (8) Document commercial invoice (380), 2207 Amount remitted 1250,25 EUR Dated 2024-02-21 Indicator complete information (37) Payment 2
+good|Payment 2 500.25 EUR Customer's reference CWF-0301-2 Account paid DE00300400500600700800 Payee (account owner) RIVER PUMP MECHANICS, MILL LANE 4, KASSEL, 34117, DE Details are given as text (11) Text for the payee PUMP SERVICE FEBRUARY Order 2
+good|Text for the payee WELL KEEPING MARCH Lines counted 2 The end of the file accepted
+advice|Message 1: debit advice accepted Reference 1, 34 segments, 2 debits, 3 transactions
+advice|Debit 2 300 EUR Advice advice without details (106) Posting date 2024-03-11 Posted amount 300 EUR Bank's reference OB-88002 Payment order number CWF-0302 Account debited DE00100200300400500600, CLEAN WELLS FUND, BREMEN Transaction 1 Bank ZZZ not given Amount ZZZ not given Lines counted 2
+equivalent|Charges each pays own cost (14) Equivalent amount 2500 EUR Currencies from EUR, base 1, to KES, rate 142,5 Reference date 2024-04-01 Exchange contract 407082 Account debited
+equivalent|Payment order KWT20240402, original (9), to be acknowledged (AB) Dated 2024-04-02 06:55
+released|Account debited DE00400500600700800900, KISIMA WATER TRUST + FRIENDS Payment 1
+released|Account paid DE00500600700800900100, MASONS' GUILD Details are given as text (11) Text for the payee WELL 3: PAID ALREADY? Lines counted
+custom_una|Account paid DE00700800900100200300, PIPE * PUMP COOP Details are given as text (11) Text for the payee VILLAGE'S SHARE: 2+1 TAPS; REST ~ LATER! Payment 2
+spaces|Payment reference INVOICE 2207 Account paid DE00200300400500600700, DEEP BORE DRILLING, KASSEL Details are given as documents (8)
+markup|Payee (account owner) </dd><script>alert(1)</script>, MILL LANE 4, KASSEL, 34117, DE
+markup|Account debited DE00100200300400500600, <B>WELLS</B> & "FUND", K
+joined|2 segments outside of messages. At byte offset 328 of the file: UNZ+1+KWT56' At byte offset 340 of the file: UNB+UNOC:3+CLEANWELLS+ORDERBANK+240306:0705+KWT57' Number 5.
+open_4|'PRC+11'FTX+PMD+++WELL KEEPING MARCH'CNT+2:2'UNT+41+1'UNZ+1+CWF What to do:
+END
+if [ -z "$missed" ]; then good "page: values, $how"; else bad "page: values, $how$missed"; fi
+# What belongs to a segment of a group stands further in.
+$program page samples/good.edi >"$log/page.html"
+depths=$(grep -oE '^<div class="in[0-9]"><dt>(Account paid|Details are given as|Document|Amount remitted|Indicator)</dt>' "$log/page.html" | head -n 5 | tr -dc '0-9')
+[ "$depths" = 00121 ] && good "page: depths, $how" || bad "page: depths, $how: $depths"
 # The reader refuses a page with any one of these changes.
 missed='' changes=0
 for name in good damaged_lin open_4; do $program page "samples/$name.edi" >"$log/$name.html"; done
@@ -159,6 +189,10 @@ if $reader check "$log/page.html" && diff <($reader outline "$log/page.html") <(
 else
     bad "page: an odd name, $how"
 fi
+# Letters of a name are those letters, and bytes that are none are told as bytes.
+cp samples/damaged_lin.edi "$log/"$'M\xc3\xa4rz\xc3(\xe9.edi'
+$program page "$log/"$'M\xc3\xa4rz\xc3(\xe9.edi' >"$log/page.html"
+if $reader text "$log/page.html" | head -n 1 | grep -qF $'M\xc3\xa4rz\\xC3(\\xE9.edi'; then good "page: letters of a name, $how"; else bad "page: letters of a name, $how"; fi
 # Any bytes.
 if [ "${pages:-0}" -gt 0 ]; then
     if timeout 900 $reader any "$pages" "${seed:-1}" ${second:+--second "$second"} $program >"$log/any" 2>&1; then

@@ -1,4 +1,4 @@
-//! Inputs of any bytes for the program, made from the samples, and what its pages say of them.
+//! Inputs of any bytes for the program, made from the samples, and what its pages and checks say of them.
 
 use crate::markup::{need, read, Checked};
 use crate::random::Random;
@@ -104,6 +104,39 @@ fn run(program: &[&str], bytes: &[u8]) -> Checked<Outline> {
     Ok(said)
 }
 
+/// The refusals of a page's outline, each with its segment and offset if it has a segment.
+fn refusals(said: &Outline) -> Vec<String> {
+    let mut all = Vec::new();
+    for line in &said.lines {
+        match line.split(' ').collect::<Vec<&str>>()[..] {
+            ["opening", number] => all.push(number.to_string()),
+            ["MSG", _, "NO", number, "0", _] => all.push(number.to_string()),
+            ["MSG", _, "NO", number, segment, offset] => all.push(format!("{number} {segment} {offset}")),
+            ["END", _, _, number] if number != "0" => all.push(number.to_string()),
+            _ => (),
+        }
+    }
+    all
+}
+
+/// The check says the same of these bytes as the page, in its own words, and gives the same status.
+fn checks(program: &[&str], bytes: &[u8], said: &Outline) -> Checked<()> {
+    let output = answer(&[program, &["check", "-"]].concat(), bytes)?;
+    let mut told: Vec<String> = Vec::new();
+    for line in String::from_utf8_lossy(&output.stdout).lines() {
+        if let Some((_, rest)) = line.split_once("refused, number ") {
+            told.push(rest.split(':').next().unwrap_or("").to_string());
+        }
+        let place = line.split_once("segment ").and_then(|(_, rest)| rest.split_once(" of the message, "));
+        if let (Some((place, _)), Some(last)) = (place, told.last_mut()) {
+            *last = format!("{last} {}", place.replace(", at byte offset", ""));
+        }
+    }
+    let (status, ours) = (output.status, refusals(said));
+    need(told == ours, || format!("the check says {told:?}, the page {ours:?}"))?;
+    need(status.code() == Some(i32::from(said.refused)), || format!("check: {status}, and refused: {}", said.refused))
+}
+
 /// A line of the second program's as far as a page says it.
 fn line_of_page(line: &str) -> String {
     match line.split(' ').collect::<Vec<&str>>()[..] {
@@ -140,7 +173,8 @@ pub fn any(count: u64, seed: u64, second: Option<&str>, program: &[&str]) -> Che
     let folder = if std::path::Path::new("target").is_dir() { "target".into() } else { std::env::temp_dir() };
     for index in 0..count {
         let bytes = input(&mut random, &samples);
-        let said = run(program, &bytes).and_then(|said| match second {
+        let said = run(program, &bytes).and_then(|said| checks(program, &bytes, &said).map(|()| said));
+        let said = said.and_then(|said| match second {
             Some(second) => agrees(second, &bytes, &said).map(|()| said),
             None => Ok(said),
         });

@@ -43,6 +43,15 @@ printf '    order 1: 1750.500 EUR\n    order 2: 300.000 EUR\n  accepted: debit a
 says "totals of an order, none of an advice" samples/order_and_advice.edi
 printf '    order 1: 1750.500 EUR\n    order 2: 0.750 EUR\n' >"$log/want"
 says "totals below one" samples/half.edi
+# A file that does not open is shown where it is wrong, at its end or its beginning.
+echo "The file ends with: ...$(tail -c 60 samples/open_4.edi)" >"$log/want"
+says "the end of a file that was cut off" samples/open_4.edi
+printf 'The file begins with: \\xEF\\xBB\\xBF%s...\n' "$(head -c 60 samples/open_3_c.edi | tail -c 57)" >"$log/want"
+says "the beginning of a file that does not open" samples/open_3_c.edi
+# Released letters are those letters.
+sed "s/LIN+1'/LIN+?1'/; s/MOA+9:300:EUR'/MOA+9:300:E?UR'/g" samples/good.edi >"$log/released.edi"
+printf '    order 1: 1750.500 EUR\n    order 2: 300.000 EUR\n' >"$log/want"
+says "released letters" "$log/released.edi"
 # A mark stands under the place.
 printf "    LXN+2'\n    ^^^\n" >"$log/want"
 says "a mark under a segment" samples/damaged_lin.edi
@@ -60,6 +69,22 @@ for want in "refused_16:RFF (SG4)" "refused_16_d:BUS (SG4), FCA (SG4), MOA (SG5)
     echo "    Here could stand: ${want#*:}" >"$log/want"
     says "what could stand in ${want%%:*}" "samples/${want%%:*}.edi"
 done
+# The same where a long text lets only a few tags be asked about at once; and nothing where one more segment would be one too many.
+{ sed "s/KWT5102-1'.*//" samples/damaged_lin.edi; head -c 300000 /dev/zero | tr '\0' X; sed "s/KWT5102-1'/\n'/" samples/damaged_lin.edi | tail -n +2; } | tr -d '\n' >"$log/wide.edi"
+printf '    Here could stand: FII (SG12), NAD (SG13), INP (SG14), GIS (SG15), PRC (SG16), SEQ (SG11),\n    LIN (SG4), CNT\n' >"$log/want"
+says "what could stand after a long text" "$log/wide.edi"
+{
+    printf "UNB+UNOC:3+A+B+240306:0705+R'UNH+1+PAYMUL:D:96A:UN'BGM'DTM'LIN'DTM'RFF'MOA'FII'"
+    for k in {1..3330}; do printf "SEQ'MOA'RFF'"; done
+    printf "UNT'UNZ+1+R'"
+} >"$log/full.edi"
+$program check "$log/full.edi" >"$log/check" 2>"$log/err"
+if [ $? = 1 ] && grep -q '^    segment 9999, ' "$log/check" && grep -q 'number 16:' "$log/check" && ! grep -q 'Here could stand' "$log/check" && [ ! -s "$log/err" ]; then
+    good "check: what could stand in a full message, $how"
+else
+    bad "check: what could stand in a full message, $how"
+    cat "$log/check" "$log/err"
+fi
 # One message for each row of a chart that may be used: every such row before it once, in the chart's order, and a damaged tag in its place.
 # It is refused there, and the row is among those that could stand there, by tag and group.
 every_row() { # CHART TYPE -> the file; rows into $log/rows
