@@ -160,9 +160,11 @@ static void put_verdict(const char *path, uint32_t messages, uint32_t refused, u
     char verdict[160];
 
     if (accepted)
-        snprintf(verdict, sizeof verdict, "Accepted: %s", messages == 0 ? "the file, which holds no message." : "every message, and the file as a whole.");
+        snprintf(verdict, sizeof verdict, "Accepted: %s.",
+                 messages == 0 ? "the file, which holds no message" : "every message, and the file as a whole");
     else if (refused == 0)
-        snprintf(verdict, sizeof verdict, "Refused: the file as a whole, see its end. Each message by itself is accepted.");
+        snprintf(verdict, sizeof verdict, "Refused: the file as a whole, see its end.%s",
+                 messages == 0 ? "" : " Each message by itself is accepted.");
     else
         snprintf(verdict, sizeof verdict, "Refused: %" PRIu32 " of %" PRIu32 " message%s%s.", refused, messages, messages == 1 ? "" : "s",
                  closing == TWINEHERALD_ACCEPTED ? "" : ", and the file as a whole, see its end");

@@ -64,7 +64,8 @@ END
 missed=''
 while IFS='|' read -r name words; do
     $program page "samples/$name.edi" >"$log/page.html"
-    $reader text "$log/page.html" | tr '\n' ' ' | grep -qF -- "$words" || missed="$missed; $name: $words"
+    $reader text "$log/page.html" | tr '\n' ' ' >"$log/text"
+    grep -qF -- "$words" "$log/text" || missed="$missed; $name: $words"
 done <<'END'
 good|From CLEANWELLS To ORDERBANK Date (year first) 24-03-06, 07:05 Reference CWF0306 Message 1: payment orders accepted Reference 1, 41 segments, 2 orders, 3 payments, at byte offset 52 of the file
 good|Payment order CWF20240306, original (9) Dated 2024-03-06 Receiver of the message WATRDEFF Sender of the message 4000000000013 Order 1
@@ -86,6 +87,14 @@ joined|2 segments outside of messages. At byte offset 328 of the file: UNZ+1+KWT
 open_4|'PRC+11'FTX+PMD+++WELL KEEPING MARCH'CNT+2:2'UNT+41+1'UNZ+1+CWF What to do:
 END
 if [ -z "$missed" ]; then good "page: values, $how"; else bad "page: values, $how$missed"; fi
+# Of a tag of 600 letters 400 are shown and marked, of a segment with a bad byte far inside the 400 around it.
+many() { head -c "$1" /dev/zero | tr '\0' "$2"; }
+sed "s/LXN+2/$(many 600 X)+2/" samples/damaged_lin.edi >"$log/tag.edi"
+$program page "$log/tag.edi" >"$log/page.html"
+[ "$($reader outline "$log/page.html" | grep '^  \(mark\|here\) ')" = "$(printf '  mark %s\n  here %s...' "$(many 400 X)" "$(many 400 X)")" ] && $reader check "$log/page.html" && good "page: a long tag, $how" || bad "page: a long tag, $how"
+sed "s/PUMP SERVICE FEBRUARY/$(many 1000 A)\x07$(many 1000 B)/" samples/good.edi >"$log/byte.edi"
+$program page "$log/byte.edi" >"$log/page.html"
+[ "$($reader outline "$log/page.html" | grep '^  \(mark\|here\) ')" = "$(printf '  mark %s\n  here ...%s%s%s...' '\x07' "$(many 133 A)" '\x07' "$(many 266 B)")" ] && $reader check "$log/page.html" && good "page: a byte in a long text, $how" || bad "page: a byte in a long text, $how"
 # What belongs to a segment of a group stands further in.
 $program page samples/good.edi >"$log/page.html"
 depths=$(grep -oE '^<div class="in[0-9]"><dt>(Account paid|Details are given as|Document|Amount remitted|Indicator)</dt>' "$log/page.html" | head -n 5 | tr -dc '0-9')
@@ -192,7 +201,8 @@ fi
 # Letters of a name are those letters, and bytes that are none are told as bytes.
 cp samples/damaged_lin.edi "$log/"$'M\xc3\xa4rz\xc3(\xe9.edi'
 $program page "$log/"$'M\xc3\xa4rz\xc3(\xe9.edi' >"$log/page.html"
-if $reader text "$log/page.html" | head -n 1 | grep -qF $'M\xc3\xa4rz\\xC3(\\xE9.edi'; then good "page: letters of a name, $how"; else bad "page: letters of a name, $how"; fi
+$reader text "$log/page.html" >"$log/text"
+if head -n 1 "$log/text" | grep -qF $'M\xc3\xa4rz\\xC3(\\xE9.edi'; then good "page: letters of a name, $how"; else bad "page: letters of a name, $how"; fi
 # Any bytes.
 if [ "${pages:-0}" -gt 0 ]; then
     if timeout 900 $reader any "$pages" "${seed:-1}" ${second:+--second "$second"} $program >"$log/any" 2>&1; then

@@ -43,6 +43,14 @@ printf '    order 1: 1750.500 EUR\n    order 2: 300.000 EUR\n  accepted: debit a
 says "totals of an order, none of an advice" samples/order_and_advice.edi
 printf '    order 1: 1750.500 EUR\n    order 2: 0.750 EUR\n' >"$log/want"
 says "totals below one" samples/half.edi
+# Of a tag of 600 letters 90 are shown and marked, of a segment with a bad byte far inside the 90 around it.
+many() { head -c "$1" /dev/zero | tr '\0' "$2"; }
+sed "s/LXN+2/$(many 600 X)+2/" samples/damaged_lin.edi >"$log/tag.edi"
+{ many 4 ' '; many 90 X; printf '...\n'; many 4 ' '; many 90 '^'; echo; } >"$log/want"
+says "a long tag" "$log/tag.edi"
+sed "s/PUMP SERVICE FEBRUARY/$(many 200 A)\x07$(many 200 B)/" samples/good.edi >"$log/byte.edi"
+{ printf '    ...'; many 30 A; printf '\\x07'; many 59 B; printf '...\n    '; many 33 ' '; echo '^^^^'; } >"$log/want"
+says "a byte in a long text" "$log/byte.edi"
 # A file that does not open is shown where it is wrong, at its end or its beginning.
 echo "The file ends with: ...$(tail -c 60 samples/open_4.edi)" >"$log/want"
 says "the end of a file that was cut off" samples/open_4.edi
@@ -69,6 +77,10 @@ for want in "refused_16:RFF (SG4)" "refused_16_d:BUS (SG4), FCA (SG4), MOA (SG5)
     echo "    Here could stand: ${want#*:}" >"$log/want"
     says "what could stand in ${want%%:*}" "samples/${want%%:*}.edi"
 done
+# The same in other service characters: after the DTM of the message.
+sed 's/LIN\*1/LXN*1/' samples/custom_una.edi >"$log/una.edi"
+echo '    Here could stand: RFF (SG1), FII (SG2), NAD (SG3), LIN (SG4)' >"$log/want"
+says "what could stand under other service characters" "$log/una.edi"
 # The same where a long text lets only a few tags be asked about at once; and nothing where one more segment would be one too many.
 { sed "s/KWT5102-1'.*//" samples/damaged_lin.edi; head -c 300000 /dev/zero | tr '\0' X; sed "s/KWT5102-1'/\n'/" samples/damaged_lin.edi | tail -n +2; } | tr -d '\n' >"$log/wide.edi"
 printf '    Here could stand: FII (SG12), NAD (SG13), INP (SG14), GIS (SG15), PRC (SG16), SEQ (SG11),\n    LIN (SG4), CNT\n' >"$log/want"
