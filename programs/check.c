@@ -14,19 +14,15 @@ static struct {
     uint32_t messages_accepted, messages_refused;
 } sum;
 
-/* The order's line number, its total and its currency: that of the order's own amount, its first MOA. */
+/* The order's line number, its total and its currency. */
 static void print_order(const walker *w, uint32_t order, uint32_t lin)
 {
-    uint32_t moa = find_tag(w, lin, w->step.report.segments, "MOA");
     uint64_t total = w->totals[order];
 
     printf("    order ");
     print_value(component(listed_segment(w, lin), 1, 1, w->m), w->m);
-    printf(": %" PRIu64 ".%03" PRIu64, total / 1000, total % 1000);
-    if (moa < w->step.report.segments) {
-        putchar(' ');
-        print_value(component(listed_segment(w, moa), 1, 3, w->m), w->m);
-    }
+    printf(": %" PRIu64 ".%03" PRIu64 " ", total / 1000, total % 1000);
+    print_value(currency_of(w, lin), w->m);
     putchar('\n');
 }
 

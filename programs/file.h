@@ -17,7 +17,7 @@ enum { MOST_BYTES = 1048576 };
 /* Exit statuses. */
 enum { ALL_ACCEPTED = 0, REFUSED = 1, TROUBLE = 2 };
 
-/* What standard input is called, and what a path is called in words. */
+/* What a file is called in words: by its path, or standard input. */
 const char *name_of(const char *path);
 
 /* Reads the file at path, standard input for "-": no more than one byte above MOST_BYTES, which is enough to be refused for. Gives 0,

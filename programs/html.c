@@ -17,7 +17,7 @@ static void put_ascii(uint8_t byte)
     }
 }
 
-void put_byte(uint8_t byte)
+static void put_byte(uint8_t byte)
 {
     if (byte >= 0x20 && byte <= 0x7E)
         put_ascii(byte);

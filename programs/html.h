@@ -4,10 +4,7 @@
 
 #include "segments.h"
 
-/* A byte of a file: as Latin 1 where that has a letter for it, otherwise as \xNN. */
-void put_byte(uint8_t byte);
-
-/* Bytes as they stand in the file. */
+/* Bytes as they stand in the file: as Latin 1 where that has a letter for one, otherwise as \xNN. */
 void put_bytes(slice bytes);
 
 /* A value, without its releases. */

@@ -26,7 +26,8 @@ size_t print_word(size_t column, const char *word, size_t length, size_t indent)
     return column + length;
 }
 
-void print_text(const char *begin, const char *text, size_t indent)
+/* A line that begins with these words and goes on with that text. */
+static void print_text(const char *begin, const char *text, size_t indent)
 {
     size_t column = strlen(begin);
 

@@ -10,9 +10,6 @@ void print_count(uint32_t count, const char *what);
 /* A word after a blank, on a new line of indent blanks if it does not fit on this one; gives the column after it. */
 size_t print_word(size_t column, const char *word, size_t length, size_t indent);
 
-/* A line that begins with these words and goes on with that text. */
-void print_text(const char *begin, const char *text, size_t indent);
-
 /* What is wrong by a refusal's number, after these words, and what to do about it. */
 void print_refusal(const char *begin, uint32_t number, size_t indent);
 

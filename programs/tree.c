@@ -69,16 +69,11 @@ static void put_first_amount(const walker *w, uint32_t k, uint32_t end)
     printf("</span>");
 }
 
-/* The total that the library gives for an order, with the currency of the order's own amount, its first MOA. */
-static void put_total(const walker *w, uint32_t k, uint32_t end, uint32_t order)
+/* The total that the library gives for an order, with its currency. */
+static void put_total(const walker *w, uint32_t k, uint32_t order)
 {
-    uint32_t moa = find_tag(w, k, end, "MOA");
-
-    printf(" <span class=\"total\">%" PRIu64 ".%03" PRIu64, w->totals[order] / 1000, w->totals[order] % 1000);
-    if (moa < end) {
-        putchar(' ');
-        put_value(component(listed_segment(w, moa), 1, 3, w->m), w->m);
-    }
+    printf(" <span class=\"total\">%" PRIu64 ".%03" PRIu64 " ", w->totals[order] / 1000, w->totals[order] % 1000);
+    put_value(currency_of(w, k), w->m);
     printf("</span>");
 }
 
@@ -105,7 +100,7 @@ static void put_order(const walker *w, uint32_t k, uint32_t end, uint32_t order)
     if (is_advice(w))
         put_first_amount(w, k, end);
     else
-        put_total(w, k, end, order);
+        put_total(w, k, order);
     printf("</h3>\n");
     k = put_facts(w, k, end, OF_ORDER);
     printf("<ol class=\"payments\">\n");

@@ -93,6 +93,14 @@ uint32_t find_tag(const walker *w, uint32_t k, uint32_t end, const char *tag)
     return k;
 }
 
+slice currency_of(const walker *w, uint32_t k)
+{
+    uint32_t end = w->step.report.segments;
+    uint32_t moa = find_tag(w, k, end, "MOA");
+
+    return moa < end ? component(listed_segment(w, moa), 1, 3, w->m) : part_of(w->file, 0, 0);
+}
+
 size_t refused_start(const walker *w)
 {
     slice message = message_of(w);

@@ -45,6 +45,9 @@ slice listed_segment(const walker *w, uint32_t k);
 /* The first segment of that tag from k on and before end, of an accepted message; end if there is none. */
 uint32_t find_tag(const walker *w, uint32_t k, uint32_t end, const char *tag);
 
+/* The currency of the order whose LIN is segment k: that of the order's own amount, its first MOA. */
+slice currency_of(const walker *w, uint32_t k);
+
 /* Where the refused segment begins in its message. */
 size_t refused_start(const walker *w);
 

@@ -1,6 +1,7 @@
 # Sourced by the gate: the page that the program writes of each sample, as tests/page.rs reads it. $program is the command, $how says
 # which build it is, $pages how many inputs of any bytes it gets as well (0: none), $second the second program, if its answers to them
 # are to be compared. What is expected of the samples stands in samples/*.txt.
+. tests/samples.sh
 if [ -z "${reader:-}" ]; then
     reader=target/page
     rustc -O --edition 2021 tests/page.rs -o $reader && good "page reader builds" || bad "page reader builds"
@@ -13,10 +14,6 @@ page_wants() { # SAMPLE without ending
         $1 == "MSG" && $3 == "NO" { print }
         $1 == "MSG" && $3 == "OK" { print "MSG", $2, "OK", type[$2] == "DEBMUL" ? "advice" : "order", $5, $6 }
         $1 == "END" { print "END", $2, $4, $5 }' "$1.txt"
-}
-page_status() { # SAMPLE without ending -> expected status
-    if [ "$(basename "$1")" = refused_14_b ]; then echo 0; return; fi
-    if page_wants "$1" | grep -qE '^opening|^MSG [0-9]+ NO|^END [0-9]+ [0-9]+ [^0]'; then echo 1; else echo 0; fi
 }
 # Every marked segment stands in the file at the offset; under number 10 the byte there is marked.
 page_here() { # SAMPLE without ending, OUTLINE
@@ -37,7 +34,7 @@ for edi in samples/*.edi; do
     $program page "$edi" >"$log/page.html" 2>"$log/err"
     got=$?
     ok=1
-    [ "$got" = "$(page_status "$name")" ] || ok=0
+    [ "$got" = "$(sample_status "$name")" ] || ok=0
     $reader check "$log/page.html" || ok=0
     $reader outline "$log/page.html" >"$log/outline" || ok=0
     case $(basename "$name") in

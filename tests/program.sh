@@ -1,13 +1,5 @@
 # Sourced by the gate: what the desk's program answers. $program is the command, by an absolute path, $how says which build it is.
-# A sample whose report says OK of every message and closes with 0 is accepted (status 0), any other is refused (status 1); the program's
-# longer lists and room judge three samples otherwise.
-program_wants() { # SAMPLE without ending -> expected status
-    case $(basename "$1") in
-    refused_14_b) echo 0; return ;;
-    esac
-    if grep -qE ' NO |^OPEN' "$1.txt"; then echo 1; return; fi
-    if grep -qE '^END .* 0$' "$1.txt"; then echo 0; else echo 1; fi
-}
+. tests/samples.sh
 # The report's lines, as far as the check's words tell the same: numbers, segments and offsets of refusals, and counts.
 told_by_report() { awk '$3 == "NO" { print "no", $4; if ($5 > 0) print "at", $5, $6 } $3 == "OK" { print "ok", $4, $5, $6 } $1 == "OPEN" { print "no", $3 } $1 == "END" { print "end", $2, $4; if ($5 != 0) print "no", $5 }' "$1"; }
 told_by_check() {
@@ -21,9 +13,9 @@ for edi in samples/*.edi; do
     $program check "$edi" >"$log/check" 2>"$log/err"
     got=$?
     ok=1
-    [ "$got" = "$(program_wants "$name")" ] || ok=0
+    [ "$got" = "$(sample_status "$name")" ] || ok=0
     case $(basename "$name") in
-    refused_14 | refused_14_b | open_1) ;;
+    refused_14 | refused_14_b | open_1) ;; # its lists and its room are longer than the report's
     *) # the same, and the first ten strays shown
         [ "$(told_by_report "$name.txt")" = "$(told_by_check "$log/check")" ] || ok=0
         strays=$(awk '$1 == "END" { print ($4 > 10 ? 10 : $4) }' "$name.txt")
