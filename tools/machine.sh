@@ -7,14 +7,14 @@ need() {
     echo "$1 is missing here, and Debian's ${*:2} could not be installed" >&2
     return 2
 }
-kit=$(dirname "$(dirname "$(rt doc)")")
 if [ "$(uname -m)" = x86_64 ]; then
     CC=gcc CXX=g++ RUN='' WATCH='-fsanitize=address,undefined'
     need_cxx() { need "$CXX" g++; }
 else
-    # The kit has an emulator for other machines. The address sanitizer does not run under it.
+    # Debian has an emulator. The address sanitizer does not run under it.
     CC=x86_64-linux-gnu-gcc CXX=x86_64-linux-gnu-g++ WATCH='-fsanitize=undefined'
-    RUN="$kit/on/$(uname -m)/toolchain/bin/qemu-x86_64 -L /usr/x86_64-linux-gnu"
+    RUN="qemu-x86_64 -L /usr/x86_64-linux-gnu"
+    need qemu-x86_64 qemu-user || exit 2
     need_cxx() { need "$CXX" g++-x86-64-linux-gnu; }
     need "$CC" gcc-x86-64-linux-gnu libc6-dev-amd64-cross || exit 2
 fi

@@ -1,4 +1,6 @@
 // What must hold of a placed debit advice: one loop over its segments and their rows, and the rule of the lowest number that is broken: 17, 18, 20, 30 and 31.
+#![tactic(auto)]
+
 ghost use Rattle.std.specs.Prelude.{◌≡◌};
 ghost use Rattle.service.specs.Tests.{alike};
 ghost use Rattle.values.specs.Numbers.{value_in};
@@ -56,6 +58,7 @@ fn no_references() -> References
 }
 
 // A BGM: 342 tells that the debit is to come.
+#[tactic(auto, using(crate::specs::Laws::StepLaws::titled_by_lem))]
 fn titled(st: Dates, m: &[u8], v: Service, at: usize) -> Dates
     ensures { result ≡ titled_by st (value_in v at m.now) }
 {
@@ -71,6 +74,7 @@ fn titled(st: Dates, m: &[u8], v: Service, at: usize) -> Dates
 }
 
 // A DTM of a LIN: 202 or 209, or 455 if the debit is to come.
+#[tactic(auto, using(crate::specs::Laws::StepLaws::dated_by_lem))]
 fn dated(st: Dates, m: &[u8], v: Service, at: usize, nth: usize) -> Dates
     ensures { result ≡ dated_by st (value_in v at m.now) nth }
 {
@@ -92,6 +96,7 @@ fn dated(st: Dates, m: &[u8], v: Service, at: usize, nth: usize) -> Dates
 }
 
 // One segment, the nth, as its dates see it.
+#[tactic(auto, using(crate::specs::Laws::StepLaws::date_title, crate::specs::Laws::StepLaws::date_line, crate::specs::Laws::StepLaws::date_other))]
 fn date_step(st: Dates, m: &[u8], v: Service, at: usize, nth: usize, row: usize) -> Dates
     ensures { result ≡ date_step st (seg_at v m.now nth row at) }
 {
@@ -125,6 +130,7 @@ fn reference_holds(referenced: bool, detailed: bool) -> bool
 }
 
 // What the last SEQ comes to: its place, if its reference does not hold.
+#[tactic(auto, using(crate::specs::Laws::StepLaws::fault_at))]
 fn last_fault(st: References) -> First
     ensures { result ≡ last_fault st }
 {
@@ -136,6 +142,7 @@ fn last_fault(st: References) -> First
 }
 
 // The first fault, the last SEQ's among them.
+#[tactic(auto, using(crate::specs::Laws::StepLaws::reference_by))]
 fn first_reference(st: References) -> First
     ensures { result ≡ first_reference st }
 {
@@ -144,6 +151,7 @@ fn first_reference(st: References) -> First
 }
 
 // A LIN: its second element tells whether it is booked with details.
+#[tactic(auto, using(crate::specs::Laws::StepLaws::lined_by_lem))]
 fn lined(st: References, m: &[u8], v: Service, at: usize) -> References
     ensures { result ≡ lined_by st (value_in v at m.now) }
 {
@@ -159,6 +167,7 @@ fn lined(st: References, m: &[u8], v: Service, at: usize) -> References
 }
 
 // A SEQ, the nth segment: another transaction, if a LIN was seen. What the SEQ before it comes to is told.
+#[tactic(auto, using(crate::specs::Laws::StepLaws::sequenced_by_lem))]
 fn sequenced(st: References, nth: usize) -> References
     ensures { result ≡ sequenced_by st nth }
 {
@@ -189,6 +198,7 @@ fn referred(st: References) -> References
 }
 
 // One segment, the nth, as references see it.
+#[tactic(auto, using(crate::specs::Laws::StepLaws::reference_lin, crate::specs::Laws::StepLaws::reference_seq, crate::specs::Laws::StepLaws::reference_rff, crate::specs::Laws::StepLaws::reference_other))]
 fn reference_step(
     st: References,
     m: &[u8],
@@ -212,6 +222,7 @@ fn reference_step(
 }
 
 // The rule of the lowest number that has a first place.
+#[tactic(auto, using(crate::specs::Laws::StepLaws::least_by))]
 fn least(t: Trailer, n: Numbering, f30: First, f31: First) -> Fault
     ensures { result ≡ least_first t n f30 f31 }
 {
@@ -226,6 +237,7 @@ fn least(t: Trailer, n: Numbering, f30: First, f31: First) -> Fault
 }
 
 // The rule of the lowest number that is broken, and the first segment under it, in an advice of so many segments on a table.
+#[tactic(auto, using(crate::specs::Laws::StepLaws::advising_first, crate::specs::Laws::StepLaws::advising_fits, crate::specs::Laws::StepLaws::advising_end, crate::specs::Laws::StepLaws::judged, chart::specs::Laws::CursorLaws::onward_less))]
 pub fn judge(m: &[u8], v: Service, t: &[[u8; COLUMNS]], segments: u64) -> Fault
     ensures { result ≡ least_of (tell_all (debmul_of segments (placed_on t.now v m.now))) }
 {

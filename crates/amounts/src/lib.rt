@@ -1,4 +1,6 @@
 // The amounts of an order and of its payments: form, qualifier, currency, exchange and total, rules 22 to 26.
+#![tactic(auto)]
+
 ghost use Rattle.std.specs.Prelude.{◌+◌, min, ◌≡◌, true, false, not, ◌&&◌, ◌||◌};
 ghost use Rattle.values.specs.Forms.Values.{amount_of};
 ghost use Rattle.values.specs.Numbers.{value_in};
@@ -45,6 +47,7 @@ fn no_order() -> Order
     }
 }
 
+#[tactic(auto, using(crate::specs::Laws::StepLaws::start_by_lem))]
 pub fn start() -> Amounts
     ensures { result ≡ sums_start }
 {
@@ -79,6 +82,7 @@ fn worth_of(amount: Amount) -> u64
 }
 
 // The amount of the MOA at `at`. One without the form counts 0.
+#[tactic(auto, using(crate::specs::Laws::StepLaws::worth_by))]
 pub fn worth_at(m: &[u8], v: Service, at: usize) -> u64
     ensures { result ≡ worth (amount_of (value_in v at m.now 1 1)) }
 {
@@ -86,6 +90,7 @@ pub fn worth_at(m: &[u8], v: Service, at: usize) -> u64
 }
 
 // Whether the qualifier of the MOA at `at` is 57.
+#[tactic(auto, using(crate::specs::Laws::StepLaws::exchange_by))]
 fn is_exchange(m: &[u8], v: Service, at: usize) -> bool
     ensures { result ≡ says (value_in v at m.now 1 0) "57" }
 {
@@ -93,6 +98,7 @@ fn is_exchange(m: &[u8], v: Service, at: usize) -> bool
 }
 
 // Whether it is 9 or 57.
+#[tactic(auto, using(crate::specs::Laws::StepLaws::qualifier_by))]
 fn has_qualifier(m: &[u8], v: Service, at: usize) -> bool
     ensures { result ≡ says (value_in v at m.now 1 0) "9" || says (value_in v at m.now 1 0) "57" }
 {
@@ -101,6 +107,7 @@ fn has_qualifier(m: &[u8], v: Service, at: usize) -> bool
 }
 
 // Whether the currency of the MOA at `at` is three capitals.
+#[tactic(auto, using(crate::specs::Laws::StepLaws::currency_by))]
 fn has_currency(m: &[u8], v: Service, at: usize) -> bool
     ensures { result ≡ capitals (value_in v at m.now 1 2) }
 {
@@ -108,6 +115,7 @@ fn has_currency(m: &[u8], v: Service, at: usize) -> bool
 }
 
 // A rate base is 1, 100 or 1000.
+#[tactic(auto, using(crate::specs::Laws::StepLaws::base_by_lem))]
 fn is_base(code: u64) -> bool
     ensures { result ≡ base_by code }
 {
@@ -116,6 +124,7 @@ fn is_base(code: u64) -> bool
 }
 
 // At most one of the two bases is given, and only with a rate.
+#[tactic(auto, using(crate::specs::Laws::StepLaws::bases_by_lem))]
 fn bases_hold(a: u64, b: u64, rate: u64) -> bool
     ensures { result ≡ bases_by a b rate }
 {
@@ -128,6 +137,7 @@ fn bases_hold(a: u64, b: u64, rate: u64) -> bool
 }
 
 // Whether the CUX at `at` names the order's currency first.
+#[tactic(auto, using(crate::specs::Laws::StepLaws::own_named))]
 fn names_own(m: &[u8], v: Service, at: usize, own: usize) -> bool
     ensures { result ≡ first_holds (value_in v own m.now 1 2) (value_in v at m.now) }
 {
@@ -137,6 +147,7 @@ fn names_own(m: &[u8], v: Service, at: usize, own: usize) -> bool
 }
 
 // Whether it names another currency then.
+#[tactic(auto, using(crate::specs::Laws::StepLaws::other_named))]
 fn names_other(m: &[u8], v: Service, at: usize, own: usize) -> bool
     ensures { result ≡ second_holds (value_in v own m.now 1 2) (value_in v at m.now) }
 {
@@ -149,6 +160,7 @@ fn names_other(m: &[u8], v: Service, at: usize, own: usize) -> bool
 }
 
 // Whether the CUX at `at` holds for the order whose MOA stands at `own`.
+#[tactic(auto, using(crate::specs::Laws::StepLaws::cux_by))]
 fn cux_holds(m: &[u8], v: Service, at: usize, own: usize) -> bool
     ensures { result ≡ cux_holds (value_in v own m.now 1 2) (value_in v at m.now) }
 {
@@ -163,6 +175,7 @@ fn cux_holds(m: &[u8], v: Service, at: usize, own: usize) -> bool
 }
 
 // Whether the CUX at `at` may stand in the order, and holds.
+#[tactic(auto, using(crate::specs::Laws::StepLaws::chain_and))]
 fn exchange_holds(m: &[u8], v: Service, at: usize, own: usize) -> bool
     ensures { result ≡ says (value_in v own m.now 1 0) "57" && cux_holds (value_in v own m.now 1 2) (value_in v at m.now) }
 {
@@ -172,6 +185,7 @@ fn exchange_holds(m: &[u8], v: Service, at: usize, own: usize) -> bool
 }
 
 // Whether an order that needs a CUX had one.
+#[tactic(auto, using(crate::specs::Laws::StepLaws::chain_came))]
 fn exchange_came(m: &[u8], v: Service, own: usize, exchanged: bool) -> bool
     ensures { result ≡ not (says (value_in v own m.now 1 0) "57") || exchanged }
 {
@@ -199,6 +213,7 @@ struct Holds {
 }
 
 // What of this holds of the order whose MOA stands at `at`; all of it where no MOA came.
+#[tactic(auto, using(crate::specs::Laws::StepLaws::held_idle, crate::specs::Laws::StepLaws::held_live))]
 fn held(m: &[u8], v: Service, live: bool, at: usize, exchanged: bool, sum: u64) -> Holds
     ensures { result ≡ held_by v m.now live at exchanged sum }
 {
@@ -223,6 +238,7 @@ fn held(m: &[u8], v: Service, live: bool, at: usize, exchanged: bool, sum: u64) 
 }
 
 // The end of an order of which this holds, and the next one.
+#[tactic(auto, using(crate::specs::Laws::StepLaws::next_by_lem))]
 fn next_order(st: Amounts, h: Holds, order: Order) -> Amounts
     ensures { result ≡ ended_with st h order }
 {
@@ -247,6 +263,7 @@ fn next_order(st: Amounts, h: Holds, order: Order) -> Amounts
 }
 
 // The first places, with the order at hand ended.
+#[tactic(auto, using(crate::specs::Laws::StepLaws::close_by))]
 pub fn close(st: Amounts, m: &[u8], v: Service) -> Amounts
     ensures { result ≡ amounts_close v m.now st }
 {
@@ -255,6 +272,7 @@ pub fn close(st: Amounts, m: &[u8], v: Service) -> Amounts
 }
 
 // The form of the amount of a MOA, the nth segment.
+#[tactic(auto, using(crate::specs::Laws::StepLaws::form_by))]
 fn formed(st: Amounts, amount: Amount, nth: usize) -> Amounts
     ensures { result ≡ with_form st (is_of amount) nth }
 {
@@ -276,6 +294,7 @@ fn formed(st: Amounts, amount: Amount, nth: usize) -> Amounts
 }
 
 // An order's own MOA.
+#[tactic(auto, using(crate::specs::Laws::StepLaws::moa_by))]
 fn order_moa(st: Amounts, m: &[u8], v: Service, at: usize, nth: usize) -> Amounts
     ensures { result ≡ order_ended v m.now (with_form st (is_of (amount_of (value_in v at m.now 1 1))) nth) (order_of true nth at false 0) }
 {
@@ -293,6 +312,7 @@ fn order_moa(st: Amounts, m: &[u8], v: Service, at: usize, nth: usize) -> Amount
 }
 
 // An order's CUX.
+#[tactic(auto, using(crate::specs::Laws::StepLaws::exchanged_by))]
 fn exchange(st: Amounts, m: &[u8], v: Service, at: usize, nth: usize) -> Amounts
     ensures { result ≡ exchanged v m.now st at nth }
 {
@@ -322,6 +342,7 @@ fn exchange(st: Amounts, m: &[u8], v: Service, at: usize, nth: usize) -> Amounts
 }
 
 // The sum, qualifier and currency of a payment's MOA of this amount.
+#[tactic(auto, using(crate::specs::Laws::StepLaws::added_by))]
 fn added(st: Amounts, m: &[u8], v: Service, at: usize, nth: usize, amount: Amount) -> Amounts
     ensures { result ≡ paid v m.now st at nth amount }
 {
@@ -360,6 +381,7 @@ fn added(st: Amounts, m: &[u8], v: Service, at: usize, nth: usize, amount: Amoun
 }
 
 // A payment's MOA.
+#[tactic(auto, using(crate::specs::Laws::StepLaws::paid_by))]
 fn payment_moa(st: Amounts, m: &[u8], v: Service, at: usize, nth: usize) -> Amounts
     ensures { result ≡ paid v m.now (with_form st (is_of (amount_of (value_in v at m.now 1 1))) nth) at nth (amount_of (value_in v at m.now 1 1)) }
 {
@@ -369,6 +391,7 @@ fn payment_moa(st: Amounts, m: &[u8], v: Service, at: usize, nth: usize) -> Amou
 }
 
 // One segment, the nth.
+#[tactic(auto, using(crate::specs::Laws::StepLaws::step_lin, crate::specs::Laws::StepLaws::step_moa, crate::specs::Laws::StepLaws::step_cux, crate::specs::Laws::StepLaws::step_paid, crate::specs::Laws::StepLaws::step_other, crate::specs::Laws::StepLaws::at_lin, crate::specs::Laws::StepLaws::at_moa, crate::specs::Laws::StepLaws::at_cux, crate::specs::Laws::StepLaws::at_paid, crate::specs::Laws::StepLaws::at_other))]
 pub fn step(st: Amounts, m: &[u8], v: Service, at: usize, nth: usize, row: usize) -> Amounts
     ensures result_value { sums_of v m.now result ≡ sums_step (seg_at v m.now 0 23 0) (sums_of v m.now st) (seg_at v m.now nth row at) }
     ensures at_value { result.order.at ≡ own_at st.order.at row at }

@@ -135,6 +135,7 @@ module _ (t : Table) (v : Service) (m : List ℕ) (i prev : ℕ) (c : Cursor) (s
     stream_start = let l : i < length (starts_of v m) = let z = same_count v m 0 in let w = stream_lt in omega arith in stands_at v m i c s.stands ∙ other_default (starts_of v m) i l
       where
         other_default : (l : List ℕ) (k : ℕ) → k < length l → get_or l k (length m) ≡ get_or l k 0
+        other_default [] k lt = elim lt [ ]
         other_default (y ∷ l) zero lt = refl
         other_default (y ∷ l) (suc k) lt = other_default l k (omega arith)
 

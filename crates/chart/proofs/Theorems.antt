@@ -11,7 +11,7 @@ use lib.Dec.{T, ltb, eqb, eqb→eq}
 use lib.ListN.{length, take, drop, take-append-drop}
 use lib.Seq.{take-add}
 use borrow.Author.Tests.{ltb-true, eq-eqb}
-use Rattle.chart.specs.Chart.{Rows, Placement, no_rows, row_then, Occurrences, no_more, one_then, Before, smaller, further, Reading, Unplaced, Begins, FirstMisfit, FailsAt}
+use Rattle.chart.specs.Chart.{Rows, Placement, no_rows, row_then, Occurrences, no_more, one_then, Before, shorter, smaller, further, Reading, Unplaced, Begins, FirstMisfit, FailsAt}
 use Rattle.chart.specs.Forms.Machine.{only, Decided, labels, lacking, closing, is_none, Frames, Ends, Step, at, fail, step}
 use Rattle.chart.proofs.Theory.{Fine, step_on, step_fail, step_fine, ends_free, and_left, and_right, nots, T_true, true_T, Said, all, part, said}
 use Rattle.chart.proofs.Plain.{placement_ends, ends_placement, stuck_fails}
@@ -57,11 +57,31 @@ misfit_or_begins rows f ts n = go (placed_or_fails rows f ts)
     go (inr y) = at_place y.0 y.1.place
 
 -- ---- ON ANY CHART: at most one reading, and at most one place
+before_apart : {xs ys zs ws : List ℕ} → Before xs ys → Before zs ws → zs ≡ ys → ws ≡ xs → ⊥
+before_apart shorter shorter p q = cc
+before_apart shorter (smaller gt) p q = cc
+before_apart shorter (further b) p q = cc
+before_apart (smaller lt) shorter p q = cc
+before_apart (smaller {x = x} {y = y} lt) (smaller {x = z} {y = w} gt) p q =
+    let e : z ≡ y = cc in
+    let f : w ≡ x = cc in
+    omega arith
+before_apart (smaller {x = x} {y = y} lt) (further {x = z} b) p q =
+    let e : z ≡ y = cc in
+    let f : z ≡ x = cc in
+    omega arith
+before_apart (further a) shorter p q = cc
+before_apart (further {x = x} a) (smaller {x = z} {y = w} gt) p q =
+    let e : z ≡ x = cc in
+    let f : w ≡ x = cc in
+    omega arith
+before_apart (further {xs = xs} {ys = ys} a) (further {xs = zs} {ys = ws} b) p q =
+    let e : zs ≡ ys = cc in
+    let f : ws ≡ xs = cc in
+    before_apart a b e f
+
 before_not : (xs ys : List ℕ) → Before xs ys → Before ys xs → ⊥
-before_not (x ∷ xs) (y ∷ ys) (smaller lt) (smaller gt) = omega arith
-before_not (x ∷ xs) (y ∷ ys) (smaller lt) (further b) = omega arith
-before_not (x ∷ xs) (y ∷ ys) (further a) (smaller gt) = omega arith
-before_not (x ∷ xs) (y ∷ ys) (further a) (further b) = before_not xs ys a b
+before_not xs ys a b = before_apart a b refl refl
 
 pub one_reading : (rows : Rows) (ts ns ms : List ℕ) → Reading rows ts ns → Reading rows ts ms → ns ≡ ms
 one_reading rows ts ns ms a b = go (a.first ms b.placement) (b.first ns a.placement)

@@ -153,6 +153,7 @@ rows_fail t c (row num tag req most kids rest) K st below (have lt g g') h e =
 
 pub step_fail : (K : Frames) (t : ℕ) (s ns : List ℕ) → step K t ≡ fail → Ends K (t ∷ s) ns → ⊥
 unfolding step
+step_fail done t s ns e h = elim h [ ]
 step_fail (frame c rows K) t s ns e (goes g h) = rows_fail t c rows K (step K t) (step_fail K t) g h e
 
 -- A STEP BACK
@@ -303,6 +304,7 @@ rows_on t c (row num tag req most kids rest) K st m L below d (have lt g g') h e
 
 pub step_on : (K : Frames) (t m : ℕ) (L : Frames) (s ns : List ℕ) → T (det_k K) → step K t ≡ at m L → Ends K (t ∷ s) ns → On m L s ns
 unfolding step det_k
+step_on done t m L s ns d e h = elim h [ ]
 step_on (frame c rows K) t m L s ns d e (goes g h) =
     rows_on t c rows K (step K t) m L (λ s ns. step_on K t m L s ns (and_right (det rows (λ t. may t K)) (det_k K) d)) (and_left (det rows (λ t. may t K)) (det_k K) d) g h e
 

@@ -1,4 +1,6 @@
 // Placing a message's segments on a chart.
+#![tactic(auto)]
+
 ghost use Rattle.std.specs.Prelude.{◌≡◌, ◌+◌, ◌<◌, ltb, length};
 ghost use Rattle.chart.specs.Forms.Machine.{owed, takes as taken};
 ghost use Rattle.chart.specs.Forms.Placing.{OnceDone, RowsDone, TurnIs};
@@ -49,6 +51,7 @@ enum Turn {
 const STUCK: u64 = 2;
 
 // The cursor at a segment that begins at `at`.
+#[tactic(auto, using(crate::specs::Laws::CursorLaws::cursor_here, crate::specs::Laws::CursorLaws::cursor_past))]
 pub fn cursor_at(m: &[u8], at: usize, v: Service) -> Cursor
     ensures { CursorIs v m.now at result }
 {
@@ -60,6 +63,7 @@ pub fn cursor_at(m: &[u8], at: usize, v: Service) -> Cursor
 }
 
 // The cursor one segment further, or past the last one.
+#[tactic(auto, using(crate::specs::Laws::CursorLaws::stepped_next, crate::specs::Laws::CursorLaws::stepped_end, crate::specs::Laws::CursorLaws::stepped_nothing))]
 fn after(m: &&[u8], v: Service, c: Cursor) -> Cursor
     ensures { Stepped v m.now.now c result }
 {
@@ -105,6 +109,7 @@ fn tag_of(t: &[[u8; COLUMNS]], r: usize) -> u64
     ((256 + a) * 256 + b) * 256 + c
 }
 
+#[tactic(auto, unfolding(crate::specs::Forms::Columns::parent_of))]
 fn parent_of(t: &[[u8; COLUMNS]], r: usize) -> usize
     requires { r < length t.now }
     ensures { result ≡ parent_of t.now r }
@@ -127,6 +132,7 @@ fn status_of(t: &[[u8; COLUMNS]], r: usize) -> u64
 }
 
 // How often a row may come: never, or its repeats.
+#[tactic(auto, using(crate::proofs::Lines::most_never, crate::proofs::Lines::most_repeats))]
 fn most_of(t: &[[u8; COLUMNS]], r: usize) -> usize
     requires { r < length t.now }
     ensures { result ≡ most_of t.now r }
@@ -140,6 +146,7 @@ fn most_of(t: &[[u8; COLUMNS]], r: usize) -> usize
 }
 
 // Whether a row has rows inside it.
+#[tactic(auto, using(crate::proofs::Nest::group_by))]
 fn is_group(t: &[[u8; COLUMNS]], r: usize) -> bool
     requires { r < length t.now }
     ensures { result ≡ ltb (r + 1) (end_of t.now r) }
@@ -148,6 +155,7 @@ fn is_group(t: &[[u8; COLUMNS]], r: usize) -> bool
 }
 
 // The row of the first segment of an occurrence of a row.
+#[tactic(auto, using(crate::proofs::Nest::first_group, crate::proofs::Nest::first_other))]
 fn first_of(t: &[[u8; COLUMNS]], r: usize) -> usize
     requires { r < length t.now }
     ensures { result ≡ first_of t.now r }
@@ -166,6 +174,7 @@ fn stuck_at(c: Cursor) -> Cursor
 }
 
 // Whether a row is required and has not come.
+#[tactic(auto, using(crate::proofs::Lines::owes_first, crate::proofs::Lines::owes_second, crate::proofs::Lines::owes_some))]
 fn owes(t: &[[u8; COLUMNS]], r: usize, times: usize) -> bool
     requires { r < length t.now }
     ensures { result ≡ owed (req_of t.now r) times }
@@ -181,6 +190,7 @@ fn owes(t: &[[u8; COLUMNS]], r: usize, times: usize) -> bool
 }
 
 // Whether a segment of the tag stands at the cursor and the row may come once more.
+#[tactic(auto, using(crate::proofs::Walk::takes_here, crate::proofs::Walk::takes_other))]
 fn takes(c: Cursor, tag: u64, times: usize, most: usize) -> bool
     ensures { result ≡ taken c.tag times tag most }
 {
@@ -191,6 +201,7 @@ fn takes(c: Cursor, tag: u64, times: usize, most: usize) -> bool
 }
 
 // What a row that has come `times` times makes of the segment at the cursor.
+#[tactic(auto, using(crate::proofs::Walk::turn_takes, crate::proofs::Walk::turn_not))]
 fn turn_of(t: &[[u8; COLUMNS]], r: usize, times: usize, c: Cursor) -> Turn
     requires { r < length t.now }
     ensures { TurnIs t.now r times c result }
@@ -208,6 +219,7 @@ fn turn_of(t: &[[u8; COLUMNS]], r: usize, times: usize, c: Cursor) -> Turn
 
 // The rows inside the row `g`, but the first: each as often as it comes. Message and table are lent on as they came, so that a level of the recursion keeps no copy
 // of where they lie.
+#[tactic(auto, using(crate::proofs::Nest::first_fits, crate::proofs::Walk::rows_start, crate::proofs::Walk::rows_done, crate::proofs::Walk::rows_it, crate::proofs::Walk::rows_small, crate::proofs::Walk::rows_tag, crate::proofs::Walk::rows_fits, crate::proofs::Walk::rows_again, crate::proofs::Walk::rows_leaf, crate::proofs::Walk::rows_short, crate::proofs::Walk::rows_next, crate::proofs::Walk::rows_more, crate::proofs::Walk::rows_less, crate::proofs::Walk::rows_falls))]
 #[cycle(place_occurrence_place_rows)]
 fn place_rows(m: &&[u8], v: Service, t: &&[[u8; COLUMNS]], g: usize, from: Cursor) -> Cursor
     requires { RowIs t.now.now g }
@@ -242,6 +254,7 @@ fn place_rows(m: &&[u8], v: Service, t: &&[[u8; COLUMNS]], g: usize, from: Curso
 }
 
 // One occurrence of the row `r`: its first segment, which stands at the cursor, and then the rows inside it.
+#[tactic(auto, using(crate::proofs::Walk::once_done))]
 #[cycle(place_occurrence_place_rows)]
 fn place_occurrence(m: &&[u8], v: Service, t: &&[[u8; COLUMNS]], r: usize, from: Cursor) -> Cursor
     requires row_is { RowIs t.now.now r }
@@ -253,6 +266,7 @@ fn place_occurrence(m: &&[u8], v: Service, t: &&[[u8; COLUMNS]], r: usize, from:
 }
 
 // All rows of the table: the message's own, once.
+#[tactic(auto, using(crate::proofs::Walk::all_small, crate::proofs::Walk::all_row, crate::proofs::Walk::all_tag, crate::proofs::Walk::all_done, crate::proofs::Walk::all_stuck))]
 fn place_all(m: &[u8], v: Service, t: &[[u8; COLUMNS]], from: Cursor) -> Cursor
     requires { Sound t.now }
     ensures { RowsDone t.now v m.now 0 (length t.now) from result }
@@ -264,6 +278,7 @@ fn place_all(m: &[u8], v: Service, t: &[[u8; COLUMNS]], from: Cursor) -> Cursor
 }
 
 // The same of the PAYMUL chart.
+#[tactic(auto, using(crate::proofs::Tables::paymul_at, crate::proofs::Tables::paymul_done))]
 fn place_order(m: &[u8], v: Service, from: Cursor) -> Cursor
     ensures { RowsDone PAYMUL v m.now 0 (length PAYMUL) from result }
 {
@@ -272,6 +287,7 @@ fn place_order(m: &[u8], v: Service, from: Cursor) -> Cursor
 }
 
 // The same of the DEBMUL chart.
+#[tactic(auto, using(crate::proofs::Tables::debmul_at, crate::proofs::Tables::debmul_done))]
 fn place_advice(m: &[u8], v: Service, from: Cursor) -> Cursor
     ensures { RowsDone DEBMUL v m.now 0 (length DEBMUL) from result }
 {
@@ -280,6 +296,7 @@ fn place_advice(m: &[u8], v: Service, from: Cursor) -> Cursor
 }
 
 // The same of the chart of a kind of message.
+#[tactic(auto, using(crate::proofs::Tables::order_done, crate::proofs::Tables::advice_done))]
 fn place_kind(m: &[u8], v: Service, kind: Kind, from: Cursor) -> Cursor
     ensures { RowsDone (table_of kind) v m.now 0 (length (table_of kind)) from result }
 {
@@ -290,6 +307,7 @@ fn place_kind(m: &[u8], v: Service, kind: Kind, from: Cursor) -> Cursor
 }
 
 // Whether the message's segments can be placed on the chart of a kind, or the first with which no message begins.
+#[tactic(auto, using(crate::proofs::Tables::sound, crate::proofs::Whole::whole_over, crate::proofs::Whole::whole_placed, crate::proofs::Whole::whole_stuck))]
 pub fn place(m: &[u8], v: Service, kind: Kind) -> Placed
     ensures { Answers (table_of kind) v m.now result }
 {
@@ -305,6 +323,7 @@ pub fn place(m: &[u8], v: Service, kind: Kind) -> Placed
 }
 
 // The row to try after a row: the one beside it, or after the last of a group the group again.
+#[tactic(auto, using(crate::proofs::Lines::next_past, crate::proofs::Lines::next_beside, crate::proofs::Lines::next_group))]
 fn next_of(t: &[[u8; COLUMNS]], r: usize) -> usize
     requires { r < length t.now }
     ensures { result ≡ next_of t.now r }
@@ -322,6 +341,7 @@ fn next_of(t: &[[u8; COLUMNS]], r: usize) -> usize
 
 // The row of a segment with the tag, where the segment before it stands at the row `prev` (0 before the first); the number of rows where there is none. On
 // any table at most as many rows are tried as it has.
+#[tactic(auto, using(crate::proofs::Stream::find_start, crate::proofs::Stream::find_past, crate::proofs::Stream::find_none, crate::proofs::Stream::find_here, crate::proofs::Stream::find_on))]
 pub fn next_row(t: &[[u8; COLUMNS]], prev: usize, tag: u64) -> usize
     ensures { result ≡ next_row t.now prev tag }
 {

@@ -1,2 +1,1 @@
 pub mod Damage
-pub mod Laws

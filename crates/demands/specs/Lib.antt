@@ -10,4 +10,3 @@ pub mod DamageCases
 pub mod WrongReaders
 pub mod Answering
 pub mod Demands
-pub mod Laws

@@ -1,4 +1,6 @@
 // The details of a payment, told by the PRC of its SG16: rule 28.
+#![tactic(auto)]
+
 ghost use Rattle.std.specs.Prelude.{◌≡◌, true, false, not, ◌&&◌};
 ghost use Rattle.faults.specs.Firsts.{lesser};
 ghost use Rattle.faults.specs.declared.First.TheVariants as First;
@@ -67,6 +69,7 @@ fn three(a: bool, b: bool, c: bool) -> bool
 }
 
 // Whether code, text and documents go together: 8, documents alone; 9 or 10, both; 11, text alone.
+#[tactic(auto, using(crate::specs::Laws::StepLaws::holds_by))]
 fn code_holds(code: u64, text: bool, documents: bool) -> bool
     ensures { result ≡ group_holds code text documents }
 {
@@ -81,6 +84,7 @@ fn code_holds(code: u64, text: bool, documents: bool) -> bool
 }
 
 // The first PRC of an SG16 in an order that has an SG10.
+#[tactic(auto, using(crate::specs::Laws::StepLaws::common_so, crate::specs::Laws::StepLaws::common_not, crate::specs::Laws::StepLaws::common_idle))]
 fn order_fault(o: Common) -> First
     ensures { result ≡ common_comes o }
 {
@@ -94,6 +98,7 @@ fn order_fault(o: Common) -> First
 }
 
 // The PRC of an SG16 whose code does not go with its text and documents.
+#[tactic(auto, using(crate::specs::Laws::StepLaws::group_none, crate::specs::Laws::StepLaws::group_at))]
 fn group_fault(g: Group) -> First
     ensures { result ≡ group_comes g }
 {
@@ -105,6 +110,7 @@ fn group_fault(g: Group) -> First
 }
 
 // The end of an SG16, in an order, and what comes after it.
+#[tactic(auto, using(crate::specs::Laws::StepLaws::next_group_by))]
 fn next_group(st: Details, order: Common, group: Group) -> Details
     ensures { result ≡ group_ended st order group }
 {
@@ -132,6 +138,7 @@ fn no_group() -> Group
 }
 
 // The end of an order and of its last SG16; whether a LIN comes then.
+#[tactic(auto, using(crate::specs::Laws::StepLaws::next_order_by))]
 fn next_order(st: Details, under: bool) -> Details
     ensures { result ≡ details_of (common_of under false First.None, lesser st.orders (common_comes st.order)) (group_of First.None 0 false false, lesser st.groups (group_comes st.group)) }
 {
@@ -155,6 +162,7 @@ fn next_order(st: Details, under: bool) -> Details
 }
 
 // The first PRC at fault, with the order and the SG16 at hand ended.
+#[tactic(auto, using(crate::specs::Laws::StepLaws::closed))]
 pub fn close(st: Details) -> First
     ensures { result ≡ details_close st }
 {
@@ -191,6 +199,7 @@ fn with_common(o: Common) -> Common
 }
 
 // The PRC of an SG16, the nth segment.
+#[tactic(auto, using(crate::specs::Laws::StepLaws::opened_by_lem))]
 fn opened(st: Details, code: u64, nth: usize) -> Details
     ensures { result ≡ group_ended st (common_of st.order.under st.order.common (lesser st.order.prc (First.At nth))) (group_of (First.At nth) code false false) }
 {
@@ -234,6 +243,7 @@ fn grown(st: Details, text: bool, documents: bool) -> Details
 }
 
 // One segment inside an order or an SG16.
+#[tactic(auto, using(crate::specs::Laws::StepLaws::step_common, crate::specs::Laws::StepLaws::step_text, crate::specs::Laws::StepLaws::step_documents, crate::specs::Laws::StepLaws::step_other))]
 fn inside(st: Details, m: &[u8], v: Service, at: usize, nth: usize, row: usize) -> Details
     requires { (row ≡ 17 → ⊥) × (row ≡ 50 → ⊥) × (row ≡ 76 → ⊥) }
     ensures { result ≡ details_step st (seg_at v m.now nth row at) }
@@ -253,6 +263,7 @@ fn inside(st: Details, m: &[u8], v: Service, at: usize, nth: usize, row: usize) 
 }
 
 // One segment, the nth.
+#[tactic(auto, using(crate::specs::Laws::StepLaws::step_lin, crate::specs::Laws::StepLaws::step_seq, crate::specs::Laws::StepLaws::step_prc))]
 pub fn step(st: Details, m: &[u8], v: Service, at: usize, nth: usize, row: usize) -> Details
     ensures { result ≡ details_step st (seg_at v m.now nth row at) }
 {

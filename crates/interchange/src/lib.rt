@@ -1,4 +1,6 @@
 // The envelope of an interchange, and where its messages lie.
+#![tactic(auto)]
+
 ghost use Rattle.std.specs.Prelude.{◌≡◌};
 ghost use Rattle.segments.specs.SegmentList.{segments_from};
 ghost use Rattle.values.specs.Forms.Values.{code_of};
@@ -73,6 +75,7 @@ pub fn refuse(number: u32) -> Refusal
 }
 
 // The tag of the segment that begins at `at`, as a code.
+#[tactic(auto, unfolding(crate::specs::Messages::tag_at))]
 fn tag_at(s: &[u8], at: usize, v: Service) -> u64
     ensures { result ≡ code_of (tag_at v s.now at) }
 {
@@ -80,6 +83,7 @@ fn tag_at(s: &[u8], at: usize, v: Service) -> u64
 }
 
 // Whether a length is 1 to 14.
+#[tactic(auto, using(crate::specs::Laws::OpenLaws::reference_none, crate::specs::Laws::OpenLaws::reference_some))]
 pub fn is_reference(n: usize) -> bool
     ensures { result ≡ is_reference n }
 {
@@ -90,6 +94,7 @@ pub fn is_reference(n: usize) -> bool
 }
 
 // Whether the segment at `at` is a UNB of syntax version 3 with a control reference.
+#[tactic(auto, using(crate::specs::Laws::OpenLaws::header_tag, crate::specs::Laws::OpenLaws::header_version, crate::specs::Laws::OpenLaws::header_reference))]
 fn is_header(s: &[u8], at: usize, v: Service) -> bool
     ensures { result ≡ is_header v s.now at }
 {
@@ -102,6 +107,7 @@ fn is_header(s: &[u8], at: usize, v: Service) -> bool
 }
 
 // Where one of the last segments begins, or `at`: a terminator with no release just before it ends a segment, whatever stands before.
+#[tactic(auto, using(crate::specs::Laws::NearLaws::near))]
 fn near_end(s: &[u8], at: usize, v: Service) -> usize
     ensures { ended v s.now (segments_from v s.now at) ≡ ended v s.now (segments_from v s.now result) }
 {
@@ -124,6 +130,7 @@ fn near_end(s: &[u8], at: usize, v: Service) -> usize
 }
 
 // Whether the last of the segments from `at` on is a finished UNZ.
+#[tactic(auto, using(segments::specs::Laws::SegmentsLaws::less_segment, crate::specs::Laws::OpenLaws::unz_done, crate::specs::Laws::OpenLaws::unz_cut, crate::specs::Laws::OpenLaws::unz_on))]
 fn ends_with_unz(s: &[u8], at: usize, v: Service) -> bool
     ensures { result ≡ ended v s.now (segments_from v s.now at) }
 {
@@ -147,6 +154,7 @@ fn ends_with_unz(s: &[u8], at: usize, v: Service) -> bool
 }
 
 // Where the first segment begins: after UNA and its breaks, or at the first byte.
+#[tactic(auto, using(crate::specs::Laws::OpenLaws::first_zero, crate::specs::Laws::OpenLaws::first_after))]
 fn first_segment(s: &[u8], una: usize) -> usize
     ensures { result ≡ first_at s.now una }
 {
@@ -156,6 +164,7 @@ fn first_segment(s: &[u8], una: usize) -> usize
     segments::skip_breaks(s, una)
 }
 
+#[tactic(auto, using(crate::specs::Laws::OpenLaws::open_headless, crate::specs::Laws::OpenLaws::open_endless, crate::specs::Laws::OpenLaws::open_whole))]
 fn open_with(s: &[u8], v: Service, una: usize) -> Opening
     ensures { result ≡ opened_by v s.now (first_at s.now una) }
 {
@@ -170,6 +179,7 @@ fn open_with(s: &[u8], v: Service, una: usize) -> Opening
 }
 
 // Whether the bytes are an interchange that opens.
+#[tactic(auto, using(crate::specs::Laws::OpenedLaws::is_opening, crate::specs::Laws::OpenLaws::open_long, crate::specs::Laws::OpenLaws::open_unfit, crate::specs::Laws::OpenLaws::open_fit))]
 pub fn open(s: &[u8]) -> Opening
     ensures { OpenedAs s.now result }
 {
@@ -184,6 +194,7 @@ pub fn open(s: &[u8]) -> Opening
 }
 
 // Tells whether the tag of the segment that begins at `at` is UNH, UNT or UNZ: its code, or 0 if its first byte is neither a U nor a release.
+#[tactic(auto, using(crate::specs::Laws::TellsLaws::tells_none, crate::specs::Laws::TellsLaws::tells_code))]
 fn service_tag(s: &[u8], at: usize, v: Service) -> u64
     ensures { Tells (tag_at v s.now at) result }
 {
@@ -199,6 +210,7 @@ fn service_tag(s: &[u8], at: usize, v: Service) -> u64
 }
 
 // Whether a UNZ whose segment the next one would follow at `next` is the end: nothing but breaks stands there.
+#[tactic(auto, using(crate::specs::Laws::KindLaws::end_unz, crate::specs::Laws::KindLaws::end_other))]
 fn is_end(s: &[u8], tag: u64, next: usize) -> bool
     ensures { result ≡ is_end s.now tag next }
 {
@@ -209,6 +221,7 @@ fn is_end(s: &[u8], tag: u64, next: usize) -> bool
 }
 
 // The end of the message that begins at `start`, sought from the segment at `from` on.
+#[tactic(auto, using(segments::specs::Laws::SegmentsLaws::less_segment, segments::specs::Laws::SegmentsLaws::segment_end_fits, crate::specs::Laws::FindLaws::end_nothing, crate::specs::Laws::FindLaws::end_cut, crate::specs::Laws::FindLaws::end_trailer, crate::specs::Laws::FindLaws::end_head, crate::specs::Laws::FindLaws::end_last, crate::specs::Laws::FindLaws::end_on))]
 fn find_end(s: &[u8], start: usize, from: usize, v: Service) -> Found
     ensures { result ≡ end_found v s.now start (segments_from v s.now from) }
 {
@@ -240,6 +253,7 @@ fn find_end(s: &[u8], start: usize, from: usize, v: Service) -> Found
 }
 
 // The next message from the position `at` on, which is read as though a terminator stood just before.
+#[tactic(auto, using(segments::specs::Laws::SegmentsLaws::less_segment, crate::specs::Laws::FindLaws::found_start, crate::specs::Laws::FindLaws::find_nothing, crate::specs::Laws::FindLaws::find_cut, crate::specs::Laws::FindLaws::find_head, crate::specs::Laws::FindLaws::find_on))]
 pub fn find(s: &[u8], at: usize, v: Service) -> Found
     ensures { result ≡ found_from v s.now at }
 {
@@ -264,6 +278,7 @@ pub fn find(s: &[u8], at: usize, v: Service) -> Found
 }
 
 // The messages and the strays among the segments from `at` on, up to the end UNZ.
+#[tactic(auto, using(segments::specs::Laws::SegmentsLaws::less_segment, segments::specs::Laws::SegmentsLaws::segment_count_fits, segments::specs::Laws::SegmentsLaws::segment_count, segments::specs::Laws::SegmentsLaws::segment_keep, crate::specs::Laws::SurveyLaws::far_keep, crate::specs::Laws::SurveyLaws::count_last, crate::specs::Laws::SurveyLaws::stray_last, crate::specs::Laws::SurveyLaws::stop_last, crate::specs::Laws::SurveyLaws::count_head, crate::specs::Laws::SurveyLaws::stray_head, crate::specs::Laws::SurveyLaws::stop_head, crate::specs::Laws::SurveyLaws::count_done, crate::specs::Laws::SurveyLaws::stray_done, crate::specs::Laws::SurveyLaws::stop_done, crate::specs::Laws::EndedLaws::ended_done, crate::specs::Laws::EndedLaws::ended_last, crate::specs::Laws::EndedLaws::ended_on, crate::specs::Laws::SurveyLaws::count_on, crate::specs::Laws::SurveyLaws::stray_inside, crate::specs::Laws::SurveyLaws::stop_on, crate::specs::Laws::SurveyLaws::stray_outside))]
 fn survey_of(s: &[u8], at: usize, v: Service) -> Survey
     ensures { Surveyed v s.now at result }
 {
@@ -303,6 +318,7 @@ fn survey_of(s: &[u8], at: usize, v: Service) -> Survey
 }
 
 // What the UNZ at `end` says against what was found, and against the UNB at `first`.
+#[tactic(auto, using(crate::specs::Laws::CloseLaws::closing_count, crate::specs::Laws::CloseLaws::closing_reference, crate::specs::Laws::CloseLaws::closing_strays, crate::specs::Laws::CloseLaws::closing_well))]
 fn closing_number(s: &[u8], first: usize, found: Survey, v: Service) -> u32
     ensures { result ≡ closing_number v s.now first found.end found.messages found.strays }
 {
@@ -330,6 +346,7 @@ fn unopened(number: u32) -> Closing
     }
 }
 
+#[tactic(auto, using(crate::specs::Laws::CloseLaws::close_headless, crate::specs::Laws::CloseLaws::close_endless, crate::specs::Laws::CloseLaws::close_whole))]
 fn close_with(s: &[u8], v: Service, una: usize) -> Closing
     ensures { result ≡ closing_by s.now (opened_by v s.now (first_at s.now una)) }
 {
@@ -350,6 +367,7 @@ fn close_with(s: &[u8], v: Service, una: usize) -> Closing
 }
 
 // Counts the messages and the strays, and compares the UNZ with them and with the UNB: one walk over the segments, which also finds 4.
+#[tactic(auto, using(crate::specs::Laws::ClosingLaws::is_closing, crate::specs::Laws::CloseLaws::close_long, crate::specs::Laws::CloseLaws::close_unfit, crate::specs::Laws::CloseLaws::close_fit))]
 pub fn close(s: &[u8]) -> Closing
     ensures { ClosedAs s.now result }
 {
@@ -364,6 +382,7 @@ pub fn close(s: &[u8]) -> Closing
 }
 
 // Where the segment after the one at `at` begins, or the end of the bytes.
+#[tactic(auto, using(crate::specs::Laws::SurveyLaws::past_finished, crate::specs::Laws::SurveyLaws::past_unfinished, crate::specs::Laws::SurveyLaws::past_nothing))]
 fn past(s: &[u8], at: usize, v: Service) -> usize
     ensures { result ≡ past_at v s.now at }
 {

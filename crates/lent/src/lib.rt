@@ -1,4 +1,6 @@
 // What lent lists take in, and what a call leaves in them.
+#![tactic(auto)]
+
 ghost use Rattle.std.specs.Prelude.{◌≡◌, ◌%◌, [], ◌∷◌, length, set};
 ghost use Rattle.lent.specs.Forms.Puts.{Puts, past_one};
 
@@ -17,6 +19,7 @@ pub fn low32(x: usize) -> u32
 }
 
 // Puts a byte at `j`, if the room reaches so far, and gives the place past it.
+#[tactic(auto, using(crate::specs::Laws::PutsLaws::puts_set, crate::specs::Laws::PutsLaws::puts_full, crate::specs::Laws::PutsLaws::set_full, crate::specs::Laws::PutsLaws::past_set, crate::specs::Laws::PutsLaws::past_full))]
 pub fn put(out: &mut [u8], j: usize, b: u8) -> usize
     ensures puts { Puts j (b ∷ []) out.old out.new result }
     ensures out_after { out.new ≡ set out.old j b }

@@ -1,4 +1,6 @@
 // The lines of the report program as bytes.
+#![tactic(auto)]
+
 ghost use Rattle.std.specs.Prelude.{◌≤◌, [], ◌∷◌, ◌++◌, length};
 ghost use Rattle.lent.specs.Forms.Puts.{Puts};
 ghost use Rattle.values.specs.Text.{text};
@@ -9,6 +11,7 @@ use interchange::Refusal;
 use report::{Counts, Report};
 
 // Puts bytes from `j` on, and gives the place past them.
+#[tactic(auto, using(crate::specs::Laws::LinesLaws::bytes_start, crate::specs::Laws::LinesLaws::bytes_put, crate::specs::Laws::LinesLaws::bytes_done))]
 fn put_bytes(out: &mut [u8], j: usize, l: &[u8]) -> usize
     ensures { Puts j l.now out.old out.new result }
 {
@@ -22,6 +25,7 @@ fn put_bytes(out: &mut [u8], j: usize, l: &[u8]) -> usize
 }
 
 // Puts a word and a space behind it from `j` on, and gives the place past them.
+#[tactic(auto, using(crate::specs::Laws::LinesLaws::word_put))]
 fn put_word(out: &mut [u8], j: usize, word: &[u8]) -> usize
     ensures { Puts j (word.now ++ text " ") out.old out.new result }
 {
@@ -30,6 +34,7 @@ fn put_word(out: &mut [u8], j: usize, word: &[u8]) -> usize
 }
 
 // Puts a number and a byte behind it from `j` on, and gives the place past them.
+#[tactic(auto, using(crate::specs::Laws::LinesLaws::number_put, crate::specs::Laws::DecimalLaws::decimal_short))]
 fn put_number(out: &mut [u8], j: usize, n: u64, after: u8) -> usize
     ensures puts { Puts j (decimal n ++ after ∷ []) out.old out.new result }
     ensures n_len_bound { length (decimal n) ≤ 20 }
@@ -41,6 +46,7 @@ fn put_number(out: &mut [u8], j: usize, n: u64, after: u8) -> usize
 }
 
 // Puts the end of a line, three numbers, from `j` on, and gives the place past it.
+#[tactic(auto, using(crate::specs::Laws::LinesLaws::three_put, crate::specs::Laws::LinesLaws::three_short))]
 fn put_three(out: &mut [u8], j: usize, a: u64, b: u64, c: u64) -> usize
     ensures puts { Puts j (line (decimal a ∷ decimal b ∷ decimal c ∷ [])) out.old out.new result }
     ensures c_len_bound { length (line (decimal a ∷ decimal b ∷ decimal c ∷ [])) ≤ 63 }
@@ -51,6 +57,7 @@ fn put_three(out: &mut [u8], j: usize, a: u64, b: u64, c: u64) -> usize
 }
 
 // Writes a line over the front of `room`, if it fits, and gives its length, or 0.
+#[tactic(auto, using(crate::specs::Laws::LinesLaws::show_long, crate::specs::Laws::LinesLaws::show_fits))]
 fn show(l: &[u8], room: &mut [u8]) -> usize
     ensures { Lined l.now room.old room.new result }
 {
@@ -61,6 +68,7 @@ fn show(l: &[u8], room: &mut [u8]) -> usize
 }
 
 // Puts the line of an accepted message, and gives its length.
+#[tactic(auto, using(crate::specs::Laws::LinesLaws::message_put, crate::specs::Laws::LinesLaws::message_short))]
 fn put_accepted(out: &mut [u8], place: u64, c: Counts) -> usize
     ensures puts { Puts 0 (message_line place (Accepted c)) out.old out.new result }
     ensures c_len_bound { length (message_line place (Accepted c)) ≤ 128 }
@@ -78,6 +86,7 @@ fn put_accepted(out: &mut [u8], place: u64, c: Counts) -> usize
 }
 
 // Puts the line of a refused message, and gives its length.
+#[tactic(auto, using(crate::specs::Laws::LinesLaws::message_put, crate::specs::Laws::LinesLaws::message_short))]
 fn put_refused(out: &mut [u8], place: u64, f: Refusal) -> usize
     ensures puts { Puts 0 (message_line place (Refused f)) out.old out.new result }
     ensures f_len_bound { length (message_line place (Refused f)) ≤ 128 }
@@ -89,6 +98,7 @@ fn put_refused(out: &mut [u8], place: u64, f: Refusal) -> usize
 }
 
 // Puts the last line, and gives its length.
+#[tactic(auto, using(crate::specs::Laws::LinesLaws::end_put, crate::specs::Laws::LinesLaws::end_short))]
 fn put_end(out: &mut [u8], messages: u64, accepted: u64, strays: u64, closing: u64) -> usize
     ensures puts { Puts 0 (end_line messages accepted strays closing) out.old out.new result }
     ensures closing_len_bound { length (end_line messages accepted strays closing) ≤ 128 }
@@ -99,6 +109,7 @@ fn put_end(out: &mut [u8], messages: u64, accepted: u64, strays: u64, closing: u
 }
 
 // Puts the line of a failed opening, and gives its length.
+#[tactic(auto, using(crate::specs::Laws::LinesLaws::open_put, crate::specs::Laws::LinesLaws::open_short))]
 fn put_open(out: &mut [u8], number: u64) -> usize
     ensures puts { Puts 0 (open_line number) out.old out.new result }
     ensures number_len_bound { length (open_line number) ≤ 128 }
@@ -109,6 +120,7 @@ fn put_open(out: &mut [u8], number: u64) -> usize
 }
 
 // Puts the line of a message, and gives its length.
+#[tactic(auto, using(crate::specs::Laws::LinesLaws::told_put, crate::specs::Laws::LinesLaws::told_short))]
 fn put_message(out: &mut [u8], place: u64, told: Report) -> usize
     ensures puts { Puts 0 (message_line place told) out.old out.new result }
     ensures told_len_bound { length (message_line place told) ≤ 128 }
@@ -120,6 +132,7 @@ fn put_message(out: &mut [u8], place: u64, told: Report) -> usize
 }
 
 // Writes the line of a message over the front of `room`, and gives its length; 0 if it does not fit.
+#[tactic(auto, using(crate::specs::Laws::LinesLaws::made_within, crate::specs::Laws::LinesLaws::made_length, crate::specs::Laws::LinesLaws::made_lined))]
 pub fn message_line(place: u64, told: Report, room: &mut [u8]) -> usize
     ensures lined { Lined (message_line place told) room.old room.new result }
     ensures told_len_bound { length (message_line place told) ≤ 128 }
@@ -130,6 +143,7 @@ pub fn message_line(place: u64, told: Report, room: &mut [u8]) -> usize
 }
 
 // Writes the last line over the front of `room`, and gives its length; 0 if it does not fit.
+#[tactic(auto, using(crate::specs::Laws::LinesLaws::made_within, crate::specs::Laws::LinesLaws::made_length, crate::specs::Laws::LinesLaws::made_lined))]
 pub fn end_line(messages: u64, accepted: u64, strays: u64, closing: u64, room: &mut [u8]) -> usize
     ensures lined { Lined (end_line messages accepted strays closing) room.old room.new result }
     ensures closing_len_bound { length (end_line messages accepted strays closing) ≤ 128 }
@@ -140,6 +154,7 @@ pub fn end_line(messages: u64, accepted: u64, strays: u64, closing: u64, room: &
 }
 
 // Writes the line of a failed opening over the front of `room`, and gives its length; 0 if it does not fit.
+#[tactic(auto, using(crate::specs::Laws::LinesLaws::made_within, crate::specs::Laws::LinesLaws::made_length, crate::specs::Laws::LinesLaws::made_lined))]
 pub fn open_line(number: u64, room: &mut [u8]) -> usize
     ensures lined { Lined (open_line number) room.old room.new result }
     ensures number_len_bound { length (open_line number) ≤ 128 }

@@ -1,4 +1,6 @@
 // The rows, the starts and the totals of an accepted message, written over the front of lent lists.
+#![tactic(auto)]
+
 ghost use Rattle.std.specs.Prelude.{◌≡◌, ◌≤◌, ◌<◌, length};
 ghost use Rattle.lent.specs.Lists.{lists};
 ghost use Rattle.listing.specs.Listing.{lists_after};
@@ -8,6 +10,7 @@ use service::Service;
 use table::COLUMNS;
 
 // The row and the start of a segment, written after those of `k` others; gives how many are written then.
+#[tactic(auto, using(crate::proofs::Segments::segment_put))]
 fn put_segment(at: usize, row: usize, k: usize, rows: &mut [u16], starts: &mut [u32]) -> usize
     requires k_in_bounds { k < length rows.old }
     requires k_in_bounds_2 { k < length starts.old }
@@ -19,6 +22,7 @@ fn put_segment(at: usize, row: usize, k: usize, rows: &mut [u16], starts: &mut [
 }
 
 // The total of an order, if the segment at `at` is its MOA and fewer than `orders` are written, `n` so far; gives how many are written then.
+#[tactic(auto, using(crate::proofs::Totals::total_put, crate::specs::Forms::Steps::other, crate::specs::Forms::Steps::full))]
 fn put_total(
     m: &[u8],
     v: Service,
@@ -41,6 +45,7 @@ fn put_total(
 }
 
 // The row on a table and the start of each of the first `segments` segments, and the total of each of the first `orders` orders among them; nothing where a list is too short.
+#[tactic(auto, using(crate::proofs::Segments::listing_first, crate::specs::Laws::ListingLaws::short_rows, crate::specs::Laws::ListingLaws::short_starts, crate::specs::Laws::ListingLaws::short_totals, crate::proofs::Segments::listing_room_rows, crate::proofs::Segments::listing_room_starts, crate::proofs::Segments::listing_room_totals, crate::proofs::Segments::listing_next, crate::proofs::Segments::listing_last, crate::proofs::Segments::listing_end))]
 pub fn put_lists(
     m: &[u8],
     v: Service,

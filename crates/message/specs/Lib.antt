@@ -5,4 +5,3 @@ pub mod Advices
 pub mod Kinds
 pub mod Faults
 pub mod Forms
-pub mod Laws

@@ -1,1 +1,2 @@
 // What document 01 says of a message, as definitions and laws. Nothing here runs.
+#![tactic(auto)]

@@ -1,4 +1,6 @@
 // LIN numbers run over the message, SEQ numbers under each LIN, and CNT tells the number of LIN segments: rules 20, 21 and 29.
+#![tactic(auto)]
+
 ghost use Rattle.std.specs.Prelude.{◌+◌, min, ◌≡◌, not, ◌||◌};
 ghost use Rattle.values.specs.Numbers.{value_in};
 ghost use Rattle.values.specs.Text.{says};
@@ -67,6 +69,7 @@ pub fn start() -> Numbering
 }
 
 // A LIN: the next line number, and sequence numbers start again.
+#[tactic(auto, using(crate::specs::Laws::StepLaws::line_by))]
 fn line(st: Numbering, m: &[u8], v: Service, at: usize, nth: usize) -> Numbering
     ensures { result ≡ line_taken st (value_in v at m.now) nth }
 {
@@ -89,6 +92,7 @@ fn line(st: Numbering, m: &[u8], v: Service, at: usize, nth: usize) -> Numbering
 }
 
 // Whether a SEQ holds: under a LIN its number is n.
+#[tactic(auto, using(crate::specs::Laws::StepLaws::implies_so, crate::specs::Laws::StepLaws::implies_not))]
 fn sequence_holds(m: &[u8], v: Service, at: usize, under: bool, n: u64) -> bool
     ensures { result ≡ not under || writes (value_in v at m.now 2 0) n }
 {
@@ -99,6 +103,7 @@ fn sequence_holds(m: &[u8], v: Service, at: usize, under: bool, n: u64) -> bool
 }
 
 // A SEQ: the next sequence number under its LIN.
+#[tactic(auto, using(crate::specs::Laws::StepLaws::sequence_by))]
 fn sequence(st: Numbering, m: &[u8], v: Service, at: usize, nth: usize) -> Numbering
     ensures { result ≡ sequence_taken st (value_in v at m.now) nth }
 {
@@ -121,6 +126,7 @@ fn sequence(st: Numbering, m: &[u8], v: Service, at: usize, nth: usize) -> Numbe
 }
 
 // Whether a CNT holds: with qualifier 2 its value is the number of LIN segments.
+#[tactic(auto, using(crate::specs::Laws::StepLaws::two_so, crate::specs::Laws::StepLaws::two_not))]
 fn control_holds(m: &[u8], v: Service, at: usize, orders: u64) -> bool
     ensures { result ≡ not (says (value_in v at m.now 1 0) "2") || writes (value_in v at m.now 1 1) orders }
 {
@@ -130,6 +136,7 @@ fn control_holds(m: &[u8], v: Service, at: usize, orders: u64) -> bool
     true
 }
 
+#[tactic(auto, using(crate::specs::Laws::StepLaws::control_by))]
 fn control(st: Numbering, m: &[u8], v: Service, at: usize, nth: usize, orders: u64) -> Numbering
     ensures { result ≡ control_taken orders st (value_in v at m.now) nth }
 {
@@ -151,6 +158,7 @@ fn control(st: Numbering, m: &[u8], v: Service, at: usize, nth: usize, orders: u
 }
 
 // One segment, the nth, of a message with `orders` LIN segments.
+#[tactic(auto, using(crate::specs::Laws::StepLaws::step_line, crate::specs::Laws::StepLaws::step_sequence, crate::specs::Laws::StepLaws::step_control, crate::specs::Laws::StepLaws::step_other))]
 pub fn step(
     st: Numbering,
     m: &[u8],

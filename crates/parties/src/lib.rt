@@ -1,4 +1,6 @@
 // The parties of an order (level B) and of a payment (level C): rule 27.
+#![tactic(auto)]
+
 ghost use Rattle.std.specs.Prelude.{◌≡◌, true, false, ◌&&◌};
 ghost use Rattle.service.specs.Tests.{if, alike as alikeOf};
 ghost use Rattle.faults.specs.Firsts.{lesser};
@@ -65,6 +67,7 @@ fn new_payment(seq: First) -> LevelC
     }
 }
 
+#[tactic(auto, using(crate::specs::Laws::StepLaws::start_by_lem))]
 pub fn start() -> Parties
     ensures { result ≡ parties_start }
 {
@@ -77,6 +80,7 @@ pub fn start() -> Parties
 }
 
 // None, one, or more.
+#[tactic(auto, using(crate::specs::Laws::StepLaws::more_one, crate::specs::Laws::StepLaws::more_two, crate::specs::Laws::StepLaws::more_none))]
 fn more_if(t: bool, n: u8) -> u8
     ensures { result ≡ more_if t n }
 {
@@ -90,6 +94,7 @@ fn more_if(t: bool, n: u8) -> u8
 }
 
 // Whether the FII at `at` gives a holder name.
+#[tactic(auto, using(crate::specs::Laws::StepLaws::name_second, crate::specs::Laws::StepLaws::name_first))]
 fn has_name(m: &[u8], v: Service, at: usize) -> bool
     ensures { result ≡ name_in (value_in v at m.now) }
 {
@@ -100,6 +105,7 @@ fn has_name(m: &[u8], v: Service, at: usize) -> bool
 }
 
 // Whether a name was given before, or is by the FII at `at`, if that is the one.
+#[tactic(auto, using(crate::specs::Laws::StepLaws::name_before, crate::specs::Laws::StepLaws::name_now, crate::specs::Laws::StepLaws::name_none))]
 fn name_if(before: bool, t: bool, m: &[u8], v: Service, at: usize) -> bool
     ensures { result ≡ if (t && name_in (value_in v at m.now)) true before }
 {
@@ -122,6 +128,7 @@ fn alike(a: bool, b: bool) -> bool
 }
 
 // Level B: exactly one OR, at most one PL and one OY, and a name exactly if there is no PL.
+#[tactic(auto, using(crate::specs::Laws::StepLaws::order_by))]
 fn order_holds(o: LevelB) -> bool
     ensures { result ≡ order_holds o.or o.named o.pl o.oy }
 {
@@ -132,6 +139,7 @@ fn order_holds(o: LevelB) -> bool
 }
 
 // Without BF, BE and no PE; with BF, a name exactly if there is no PE.
+#[tactic(auto, using(crate::specs::Laws::StepLaws::bf_none, crate::specs::Laws::StepLaws::bf_some))]
 fn bf_holds(p: LevelC) -> bool
     ensures { result ≡ bf_holds p.bf p.named p.pe p.be }
 {
@@ -142,6 +150,7 @@ fn bf_holds(p: LevelC) -> bool
 }
 
 // Level C: at most one each of BF, PE and BE, and what goes with BF.
+#[tactic(auto, using(crate::specs::Laws::StepLaws::payment_by))]
 fn payment_holds(p: LevelC) -> bool
     ensures { result ≡ payment_holds p.bf p.named p.pe p.be }
 {
@@ -152,6 +161,7 @@ fn payment_holds(p: LevelC) -> bool
 }
 
 // The LIN of an order whose parties do not hold.
+#[tactic(auto, using(crate::specs::Laws::StepLaws::order_none, crate::specs::Laws::StepLaws::order_at))]
 fn order_fault(o: LevelB) -> First
     ensures { result ≡ order_comes o }
 {
@@ -163,6 +173,7 @@ fn order_fault(o: LevelB) -> First
 }
 
 // The SEQ of a payment whose parties do not hold.
+#[tactic(auto, using(crate::specs::Laws::StepLaws::payment_none, crate::specs::Laws::StepLaws::payment_at))]
 fn payment_fault(p: LevelC) -> First
     ensures { result ≡ payment_comes p }
 {
@@ -174,6 +185,7 @@ fn payment_fault(p: LevelC) -> First
 }
 
 // The end of a payment, and the next one.
+#[tactic(auto, using(crate::specs::Laws::StepLaws::next_payment_by))]
 fn next_payment(st: Parties, seq: First) -> Parties
     ensures { result ≡ with_payment st (level_c seq 0 false 0 0) (lesser st.payments (payment_comes st.payment)) }
 {
@@ -191,6 +203,7 @@ fn next_payment(st: Parties, seq: First) -> Parties
 }
 
 // The end of an order and of its last payment, and the next order.
+#[tactic(auto, using(crate::specs::Laws::StepLaws::next_order_by))]
 fn next_order(st: Parties, lin: First) -> Parties
     ensures { result ≡ ended st lin }
 {
@@ -209,6 +222,7 @@ fn next_order(st: Parties, lin: First) -> Parties
 }
 
 // The first LIN or SEQ whose parties do not hold, with the order and the payment at hand ended.
+#[tactic(auto, using(crate::specs::Laws::StepLaws::closed))]
 pub fn close(st: Parties) -> First
     ensures { result ≡ parties_close st }
 {
@@ -219,6 +233,7 @@ pub fn close(st: Parties) -> First
 }
 
 // An FII of an order.
+#[tactic(auto, using(crate::specs::Laws::StepLaws::order_fii_by))]
 fn order_fii(o: LevelB, m: &[u8], v: Service, at: usize) -> LevelB
     ensures { result ≡ order_fii o (value_in v at m.now) }
 {
@@ -236,6 +251,7 @@ fn order_fii(o: LevelB, m: &[u8], v: Service, at: usize) -> LevelB
 }
 
 // A NAD of an order.
+#[tactic(auto, using(crate::specs::Laws::StepLaws::order_nad_by))]
 fn order_nad(o: LevelB, m: &[u8], v: Service, at: usize) -> LevelB
     ensures { result ≡ order_nad o (value_in v at m.now) }
 {
@@ -253,6 +269,7 @@ fn order_nad(o: LevelB, m: &[u8], v: Service, at: usize) -> LevelB
 }
 
 // An FII of a payment.
+#[tactic(auto, using(crate::specs::Laws::StepLaws::payment_fii_by))]
 fn payment_fii(p: LevelC, m: &[u8], v: Service, at: usize) -> LevelC
     ensures { result ≡ payment_fii p (value_in v at m.now) }
 {
@@ -270,6 +287,7 @@ fn payment_fii(p: LevelC, m: &[u8], v: Service, at: usize) -> LevelC
 }
 
 // A NAD of a payment.
+#[tactic(auto, using(crate::specs::Laws::StepLaws::payment_nad_by))]
 fn payment_nad(p: LevelC, m: &[u8], v: Service, at: usize) -> LevelC
     ensures { result ≡ payment_nad p (value_in v at m.now) }
 {
@@ -315,6 +333,7 @@ fn with_payment(st: Parties, payment: LevelC) -> Parties
 }
 
 // One segment, the nth, inside an order or a payment.
+#[tactic(auto, using(crate::specs::Laws::StepLaws::step_order_fii, crate::specs::Laws::StepLaws::step_order_nad, crate::specs::Laws::StepLaws::step_payment_fii, crate::specs::Laws::StepLaws::step_payment_nad, crate::specs::Laws::StepLaws::step_other))]
 fn inside(st: Parties, m: &[u8], v: Service, at: usize, nth: usize, row: usize) -> Parties
     requires { (row ≡ 17 → ⊥) × (row ≡ 50 → ⊥) }
     ensures { result ≡ parties_step st (seg_at v m.now nth row at) }
@@ -337,6 +356,7 @@ fn inside(st: Parties, m: &[u8], v: Service, at: usize, nth: usize, row: usize) 
 }
 
 // One segment, the nth.
+#[tactic(auto, using(crate::specs::Laws::StepLaws::step_lin, crate::specs::Laws::StepLaws::step_seq))]
 pub fn step(st: Parties, m: &[u8], v: Service, at: usize, nth: usize, row: usize) -> Parties
     ensures { result ≡ parties_step st (seg_at v m.now nth row at) }
 {

@@ -1,4 +1,6 @@
 // A segment's elements and components: tokens, and the position of a component.
+#![tactic(auto)]
+
 ghost use Rattle.std.specs.Prelude.{◌≡◌, false, drop};
 ghost use Rattle.parts.specs.Forms.Lex.{token_at, elem_at, comp_at};
 ghost use Rattle.parts.specs.Parts.{lex, value_of, elements, value_at};
@@ -15,6 +17,7 @@ pub enum Token {
 }
 
 // What stands at `i`, and where the next token begins.
+#[tactic(auto, using(crate::proofs::Laws::LexLaws::token_plain, crate::proofs::Laws::LexLaws::token_comp, crate::proofs::Laws::LexLaws::token_elem, crate::proofs::Laws::LexLaws::token_rel_lem, crate::proofs::Laws::LexLaws::token_cut, crate::proofs::Laws::LexLaws::token_term, crate::proofs::Laws::LexLaws::token_none))]
 pub fn token_at(s: &[u8], i: usize, v: Service) -> Token
     ensures { result ≡ token_at v i (drop i s.now) }
 {
@@ -41,6 +44,7 @@ pub fn token_at(s: &[u8], i: usize, v: Service) -> Token
 }
 
 // The position of element `e` of the segment that begins at `at`, or of the segment's end.
+#[tactic(auto, using(crate::proofs::Laws::LexLaws::less_byte, crate::proofs::Laws::LexLaws::less_comp, crate::proofs::Laws::LexLaws::less_elem, crate::proofs::Laws::LexLaws::elem_here, crate::proofs::Laws::LexLaws::elem_byte, crate::proofs::Laws::LexLaws::elem_comp, crate::proofs::Laws::LexLaws::elem_elem, crate::proofs::Laws::LexLaws::elem_stop))]
 fn element(s: &[u8], at: usize, v: Service, e: usize) -> usize
     ensures { lex v false (drop result s.now) ≡ elem_at e (lex v false (drop at s.now)) }
 {
@@ -68,6 +72,7 @@ fn element(s: &[u8], at: usize, v: Service, e: usize) -> usize
 }
 
 // The position of component `c` of the element that begins at `at`, or a position where the value is empty.
+#[tactic(auto, using(crate::proofs::Laws::LexLaws::less_byte, crate::proofs::Laws::LexLaws::comp_byte, crate::proofs::Laws::LexLaws::less_comp, crate::proofs::Laws::LexLaws::comp_comp, crate::proofs::Laws::LexLaws::comp_elem, crate::proofs::Laws::LexLaws::comp_stop, crate::proofs::Laws::LexLaws::comp_here))]
 fn component_of(s: &[u8], at: usize, v: Service, c: usize) -> usize
     ensures { value_of (lex v false (drop result s.now)) ≡ value_of (comp_at c (lex v false (drop at s.now))) }
 {
@@ -95,6 +100,7 @@ fn component_of(s: &[u8], at: usize, v: Service, c: usize) -> usize
 }
 
 // The position of component `c` of element `e` of the segment that begins at `at`. The tag is component 0 of element 0.
+#[tactic(auto, using(crate::proofs::Laws::ValueLaws::component_at))]
 pub fn component(s: &[u8], at: usize, v: Service, e: usize, c: usize) -> usize
     ensures { value_of (lex v false (drop result s.now)) ≡ value_at (elements (lex v false (drop at s.now))) e c }
 {

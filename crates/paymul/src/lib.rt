@@ -1,4 +1,6 @@
 // The PAYMUL chart: a constant table, one row per segment and group.
+#![tactic(auto)]
+
 ghost use Rattle.std.specs.Prelude.{◌≡◌};
 ghost use Rattle.paymul.specs.Table.{PAYMUL};
 

@@ -1,5 +1,7 @@
 -- The lines that the report program prints, as document 01, "Cases", says.
-use Rattle.std.specs.Prelude.{ℕ, ◌+◌, ◌≤◌, ◌<◌, ◌≡◌, List, length}
+use Rattle.std.specs.Prelude.{ℕ, ◌+◌, ◌≤◌, ◌<◌, ◌≡◌, List, [], ◌++◌, length}
+use Rattle.std.specs.declared.option.Option.{Option}
+use Rattle.std.specs.Io.KnownBytes.{Appends}
 use Rattle.service.specs.declared.Service.{Service}
 use Rattle.interchange.specs.declared.Refusal.{Refusal}
 use Rattle.interchange.specs.declared.Opening.TheVariants as opening
@@ -52,3 +54,33 @@ pub data LineOf (s : List ℕ) : List ℕ → Type 0 where
   told : (at n k e : ℕ) (r : Report) → Opened s → Visited s at n k → Judged s at e r → LineOf s (message_line (n + 1) r)
   -- "END: messages, accepted, strays, closing number (0 for none)."
   end : (k : ℕ) (c : Closing) → Opened s → AcceptedOf s k → ClosedAs s c → LineOf s (end_line c.messages k c.strays c.number)
+
+-- the lines of the messages that the walk visits, each once and in its order, up to a position: so many messages, of which so many were accepted
+pub data Told (s : List ℕ) : ℕ → ℕ → ℕ → List ℕ → Type 0 where
+  told_none : Told s 0 0 0 []
+  told_more : (at n k e : ℕ) (r : Report) (l : List ℕ) → Told s at n k l → Judged s at e r → Told s e (n + 1) (k + accepts r) (l ++ message_line (n + 1) r)
+
+-- the lines of all messages, of which so many were accepted
+pub record ToldAll (s : List ℕ) (k : ℕ) (l : List ℕ) : Type 0 where
+  pub at : ℕ
+  pub messages : ℕ
+  pub visited : Told s at messages k l
+  pub last : (a e : ℕ) → message a e ≡ step_from s at → ⊥
+
+-- the whole report on s: these lines and nothing else
+pub data ReportOf (s : List ℕ) : List ℕ → Type 0 where
+  long_alone : 32768 < length s → ReportOf s (open_line 1)
+  unopened_alone : (f : Refusal) → length s ≤ 32768 → OpenedAs s (opening.Refused f) → ReportOf s (open_line f.number)
+  messages_end : (k : ℕ) (l : List ℕ) (c : Closing) → Opened s → ToldAll s k l → ClosedAs s c → ReportOf s (l ++ end_line c.messages k c.strays c.number)
+
+-- what a writer holds grew by the lines of all messages
+pub record Tells (s : List ℕ) (k : ℕ) (old new : Option (List ℕ)) : Type 0 where
+  pub lines : List ℕ
+  pub all : ToldAll s k lines
+  pub written : Appends old new lines
+
+-- what a writer holds grew by the report on s
+pub record Reported (s : List ℕ) (old new : Option (List ℕ)) : Type 0 where
+  pub lines : List ℕ
+  pub report : ReportOf s lines
+  pub written : Appends old new lines

@@ -1,49 +1,63 @@
 // Reads an interchange from standard input and reports on each of its messages.
-ghost use Rattle.std.specs.Prelude.{◌≤◌, ◌≡◌, length};
-ghost use Rattle.lines.specs.Lines.{message_line, open_line};
-ghost use Rattle.payreport.specs.Printed.{accepts, Opened, AcceptedOf, LineOf};
+#![tactic(auto)]
+
+ghost use Rattle.std.specs.Prelude.{◌≤◌, ◌≡◌, length, take, IfOk, OnOk};
+ghost use Rattle.std.specs.Io.KnownBytes.{Appends, Consumes};
+ghost use Rattle.interchange.specs.declared.Closing.{Closing};
+ghost use Rattle.interchange.specs.Closed.{ClosedAs};
+ghost use Rattle.lines.specs.Lines.{message_line, end_line, open_line};
+ghost use Rattle.payreport.specs.Printed.{accepts, Opened, AcceptedOf, LineOf, Tells, Reported};
 
 use interchange::Opening;
-use libc::{STDIN_FILENO, STDOUT_FILENO};
 use report::Report;
+use std::io;
+use std::io::{Read, Write};
 use walk::Walked;
 
 const MOST: usize = 32768;
 
-// Hands a line of the report on `s` to standard output.
-fn write_line(s: &[u8], l: &[u8])
+// Hands a line of the report on `s` to the output.
+fn write_line<W: Write>(out: &mut W, s: &[u8], l: &[u8]) -> io::Result<()>
     requires { LineOf s.now l.now }
+    ensures { OnOk result (Appends (W.contents out.old) (W.contents out.new) l.now) }
 {
-    io::write_all(STDOUT_FILENO, l);
+    out.write_all(l)
 }
 
 // One message's line.
-fn put_message(s: &[u8], place: u64, told: Report)
+#[tactic(auto, using(lines::specs::Laws::LinesLaws::held_within, lines::specs::Laws::LinesLaws::held_length, crate::specs::Laws::PrintedLaws::held_line))]
+fn put_message<W: Write>(out: &mut W, s: &[u8], place: u64, told: Report) -> io::Result<()>
     requires { LineOf s.now (message_line place told) }
+    ensures { OnOk result (Appends (W.contents out.old) (W.contents out.new) (message_line place told)) }
 {
     let mut room = [0u8; 128];
     let n = lines::message_line(place, told, &mut room);
-    write_line(s, &room[..n]);
+    write_line(out, s, &room[..n])
 }
 
 // The last line, after the messages.
-fn put_end(s: &[u8], accepted: u64)
+#[tactic(auto, using(lines::specs::Laws::LinesLaws::held_within, lines::specs::Laws::LinesLaws::held_length, crate::specs::Laws::PrintedLaws::held_line, crate::specs::Printed::end))]
+fn put_end<W: Write>(out: &mut W, s: &[u8], accepted: u64) -> io::Result<()>
     requires opened { Opened s.now }
     requires accepted_of { AcceptedOf s.now accepted }
+    ensures { OnOk result ((c : Closing) × ClosedAs s.now c
+        × Appends (W.contents out.old) (W.contents out.new) (end_line c.messages accepted c.strays c.number)) }
 {
     let c = interchange::close(s);
     let mut room = [0u8; 128];
     let n = lines::end_line(c.messages, accepted, c.strays, c.number as u64, &mut room);
-    write_line(s, &room[..n]);
+    write_line(out, s, &room[..n])
 }
 
 // The only line, where the interchange does not open.
-fn put_open(s: &[u8], number: u64)
+#[tactic(auto, using(lines::specs::Laws::LinesLaws::held_within, lines::specs::Laws::LinesLaws::held_length, crate::specs::Laws::PrintedLaws::held_line))]
+fn put_open<W: Write>(out: &mut W, s: &[u8], number: u64) -> io::Result<()>
     requires { LineOf s.now (open_line number) }
+    ensures { OnOk result (Appends (W.contents out.old) (W.contents out.new) (open_line number)) }
 {
     let mut room = [0u8; 128];
     let n = lines::open_line(number, &mut room);
-    write_line(s, &room[..n]);
+    write_line(out, s, &room[..n])
 }
 
 // 1 if a message is accepted.
@@ -58,12 +72,20 @@ fn counted(told: Report) -> u64
 }
 
 // A line for each message, and how many were accepted.
-fn put_messages(s: &[u8], rows: &mut [u16], starts: &mut [u32], totals: &mut [u64]) -> u64
+#[tactic(auto, using(crate::specs::Laws::PrintedLaws::stand_first, walk::specs::Laws::PlaceLaws::walk_less, walk::specs::Laws::PlaceLaws::walk_count_fits, walk::specs::Laws::PlaceLaws::walk_add_fits, crate::specs::Laws::PrintedLaws::told_line, crate::specs::Laws::PrintedLaws::none_left, crate::specs::Laws::PrintedLaws::none_more, crate::specs::Laws::PrintedLaws::told_next))]
+fn put_messages<W: Write>(
+    out: &mut W,
+    s: &[u8],
+    rows: &mut [u16],
+    starts: &mut [u32],
+    totals: &mut [u64],
+) -> io::Result<u64>
     requires opened { Opened s.now }
     requires rows_len { length rows.old ≡ 2000 }
     requires starts_len { length starts.old ≡ 2000 }
     requires totals_len { length totals.old ≡ 400 }
-    ensures { AcceptedOf s.now result }
+    ensures count { IfOk result (λ accepted. AcceptedOf s.now accepted) }
+    ensures lines { IfOk result (λ accepted. Tells s.now accepted (W.contents out.old) (W.contents out.new)) }
 {
     let mut at: usize = 0;
     let mut place: u64 = 0;
@@ -73,23 +95,25 @@ fn put_messages(s: &[u8], rows: &mut [u16], starts: &mut [u32], totals: &mut [u6
         match w {
             Walked::Message(_, end, told) => {
                 place += 1;
-                put_message(s, place, told);
+                put_message(out, s, place, told)?;
                 accepted += counted(told);
                 at = end;
             }
             Walked::Nothing => {
-                return accepted;
+                return Ok(accepted);
             }
             Walked::Refused(_) => {
-                return accepted;
+                return Ok(accepted);
             }
         }
     }
 }
 
 // The lines of an interchange that is short enough.
-fn report_on(s: &[u8])
+#[tactic(auto, using(crate::specs::Laws::PrintedLaws::opened_so, crate::specs::Laws::PrintedLaws::unopened_line))]
+fn report_on<W: Write>(out: &mut W, s: &[u8]) -> io::Result<()>
     requires { length s.now ≤ 32768 }
+    ensures { OnOk result (Reported s.now (W.contents out.old) (W.contents out.new)) }
 {
     let o = interchange::open(s);
     match o {
@@ -97,21 +121,43 @@ fn report_on(s: &[u8])
             let mut rows = [0u16; 2000];
             let mut starts = [0u32; 2000];
             let mut totals = [0u64; 400];
-            let accepted = put_messages(s, &mut rows, &mut starts, &mut totals);
-            put_end(s, accepted);
+            let accepted = put_messages(out, s, &mut rows, &mut starts, &mut totals)?;
+            put_end(out, s, accepted)
         }
-        Opening::Refused(r) => {
-            put_open(s, r.number as u64);
-        }
+        Opening::Refused(r) => put_open(out, s, r.number as u64),
     }
 }
 
-fn main() {
-    let mut buffer = [0u8; 32769];
-    let n = io::read_full(STDIN_FILENO, &mut buffer);
-    if MOST < n {
-        put_open(&buffer[..n], 1);
-        return;
+// The report on `s`: after an `Ok` every line was handed over, once and in order, and nothing else.
+fn put_report<W: Write>(out: &mut W, s: &[u8]) -> io::Result<()>
+    ensures { OnOk result (Reported s.now (W.contents out.old) (W.contents out.new)) }
+{
+    if MOST < s.len() {
+        return put_open(out, s, 1);
     }
-    report_on(&buffer[..n]);
+    report_on(out, s)
+}
+
+// Reads until `room` is full, the input ends or a read fails, and gives how many bytes it put over the front of `room`.
+fn read_full<R: Read>(input: &mut R, room: &mut [u8]) -> usize
+    ensures within { result ≤ length room.new }
+    ensures taken { Consumes (R.remaining input.old) (R.remaining input.new) (take result room.new) }
+{
+    let mut done: usize = 0;
+    while done < room.len() {
+        match input.read(&mut room[done..]) {
+            Ok(0) => break,
+            Ok(n) => done += n,
+            Err(_) => break,
+        }
+    }
+    done
+}
+
+// Of standard input one byte more is read than a report may have, which tells that it is too long. Where a line cannot be
+// written, the report ends there.
+fn main(rt: HostRuntime) {
+    let mut buffer = [0u8; 32769];
+    let n = read_full(&mut rt.reader(), &mut buffer);
+    let _ = put_report(&mut io::writer(&rt), &buffer[..n]);
 }

@@ -1,4 +1,6 @@
 // One message judged: refused with the lowest number that applies and its first place, or accepted with its lists written.
+#![tactic(auto)]
+
 ghost use Rattle.std.specs.Prelude.{◌≡◌, ◌+◌, ◌%◌, ◌&&◌, leb, length};
 ghost use Rattle.lent.specs.Lists.{lists};
 ghost use Rattle.service.specs.Service.{fitting};
@@ -43,6 +45,7 @@ struct Room {
 }
 
 // 1 for too many bytes, 2 for characters that are not fit, else 0.
+#[tactic(auto, using(crate::specs::Laws::ChecksLaws::outright_long, crate::specs::Laws::ChecksLaws::outright_fit, crate::specs::Laws::ChecksLaws::outright_unfit))]
 fn refused_outright(m: &[u8], v: Service) -> u32
     ensures { result ≡ outright (leb (length m.now) 1048576) (fitting v) }
 {
@@ -56,6 +59,7 @@ fn refused_outright(m: &[u8], v: Service) -> u32
 }
 
 // Whether the first UNT is there and ends the bytes.
+#[tactic(auto, using(crate::specs::Laws::ChecksLaws::closed_none, crate::specs::Laws::ChecksLaws::closed_end, crate::specs::Laws::ChecksLaws::closed_unfinished, crate::specs::Laws::ChecksLaws::closed_nothing, segments::specs::Laws::SegmentsLaws::segment_end_fits))]
 fn is_closed(m: &[u8], v: Service, unt: First) -> bool
     ensures { result ≡ ends_with v m.now unt }
 {
@@ -73,6 +77,7 @@ fn is_closed(m: &[u8], v: Service, unt: First) -> bool
 }
 
 // The kind whose type the UNH names; PAYMUL where it names none.
+#[tactic(auto, using(crate::specs::Laws::ChecksLaws::kind_debmul, crate::specs::Laws::ChecksLaws::kind_paymul))]
 fn kind_of(m: &[u8], v: Service) -> Kind
     ensures { result ≡ kind_at v m.now }
 {
@@ -83,6 +88,7 @@ fn kind_of(m: &[u8], v: Service) -> Kind
 }
 
 // Whether the UNH's type is PAYMUL or DEBMUL, D, 96A, UN, if it is a UNH with a reference.
+#[tactic(auto, using(crate::specs::Laws::ChecksLaws::typed_by))]
 fn is_typed(m: &[u8], v: Service, unh: bool) -> bool
     ensures { result ≡ typed v m.now unh }
 {
@@ -98,6 +104,7 @@ fn is_typed(m: &[u8], v: Service, unh: bool) -> bool
 }
 
 // Whether the first segment is a UNH with a reference of 1 to 14 bytes and the type.
+#[tactic(auto, using(crate::specs::Laws::ChecksLaws::header_by))]
 fn has_header(m: &[u8], v: Service) -> bool
     ensures { result ≡ headed_at v m.now }
 {
@@ -108,6 +115,7 @@ fn has_header(m: &[u8], v: Service) -> bool
 }
 
 // The faults that come before the lists, by number and segment: 11 to 13.
+#[tactic(auto, using(crate::specs::Laws::ChecksLaws::early_unclosed, crate::specs::Laws::ChecksLaws::early_header, crate::specs::Laws::ChecksLaws::early_many, crate::specs::Laws::ChecksLaws::early_none))]
 fn early_fault(m: &[u8], v: Service, t: Tally) -> Fault
     ensures { result ≡ early_fault (ends_with v m.now t.unt) (headed_at v m.now) t.segments }
 {
@@ -132,6 +140,7 @@ fn ordinal(n: usize) -> usize
 }
 
 // 16, at the segment that begins at `at`.
+#[tactic(auto, using(crate::specs::Laws::ChecksLaws::misfit_by))]
 fn misfit_at(m: &[u8], v: Service, at: usize) -> Fault
     ensures { result ≡ misfit_at v m.now at }
 {
@@ -139,6 +148,7 @@ fn misfit_at(m: &[u8], v: Service, at: usize) -> Fault
 }
 
 // What placing a message on the chart of a kind finds: nothing, or 16.
+#[tactic(auto, using(crate::specs::Laws::ChecksLaws::misfit_none, crate::specs::Laws::ChecksLaws::misfit_some))]
 fn misfit_of(m: &[u8], v: Service, kind: Kind) -> Fault
     ensures { Misfit kind v m.now result }
 {
@@ -150,6 +160,7 @@ fn misfit_of(m: &[u8], v: Service, kind: Kind) -> Fault
 }
 
 // The rules of a kind on a message with a tally, its rows on a table.
+#[tactic(auto, using(crate::specs::Laws::ChecksLaws::judged_paymul, crate::specs::Laws::ChecksLaws::judged_debmul))]
 fn rule_fault(m: &[u8], v: Service, kind: Kind, chart: &[[u8; COLUMNS]], t: Tally) -> Fault
     ensures { result ≡ least_of (tell_all ((means kind).rules t.segments t.orders (placed_on chart.now v m.now))) }
 {
@@ -160,6 +171,7 @@ fn rule_fault(m: &[u8], v: Service, kind: Kind, chart: &[[u8; COLUMNS]], t: Tall
 }
 
 // The faults that come after the lists, by number and segment: 16 to 31. `misfit` is what placing the message found.
+#[tactic(auto, using(crate::specs::Laws::ChecksLaws::late_placed, crate::specs::Laws::ChecksLaws::late_stuck))]
 fn late_fault(
     m: &[u8],
     v: Service,
@@ -179,6 +191,7 @@ fn late_fault(
 }
 
 // The refusal under 10, for the byte at `at`.
+#[tactic(auto, using(crate::specs::Laws::ChecksLaws::byte_by))]
 fn refusal_of_byte(m: &[u8], v: Service, at: usize) -> Refusal
     ensures { result ≡ byte_refusal v m.now at }
 {
@@ -190,6 +203,7 @@ fn refusal_of_byte(m: &[u8], v: Service, at: usize) -> Refusal
 }
 
 // Where a segment begins, by its place counted from 1.
+#[tactic(auto, using(crate::specs::Laws::ChecksLaws::start_none, crate::specs::Laws::ChecksLaws::start_some))]
 fn start_of(m: &[u8], v: Service, segment: usize) -> usize
     ensures { result ≡ start_by v m.now segment }
 {
@@ -200,6 +214,7 @@ fn start_of(m: &[u8], v: Service, segment: usize) -> usize
 }
 
 // The refusal with a number, for a segment.
+#[tactic(auto, using(crate::specs::Laws::ChecksLaws::refusal_by))]
 fn refusal_at(m: &[u8], v: Service, number: u32, segment: usize) -> Refusal
     ensures { result ≡ refusal_at v m.now number segment }
 {
@@ -221,6 +236,7 @@ fn totals_of(kind: Kind, orders: usize) -> usize
 }
 
 // Whether lists of this room are long enough for a message of a kind.
+#[tactic(auto, using(crate::specs::Laws::ChecksLaws::fits_by))]
 fn fits(kind: Kind, t: Tally, room: Room) -> bool
     ensures { result ≡ leb t.segments room.rows && leb t.segments room.starts && leb (listed_orders kind t.orders) room.totals }
 {
@@ -229,6 +245,7 @@ fn fits(kind: Kind, t: Tally, room: Room) -> bool
 }
 
 // The report of a message of at most so many bytes, with fit characters, by what placing it found.
+#[tactic(auto, using(crate::specs::Laws::CheckLaws::check_byte, crate::specs::Laws::CheckLaws::check_early, crate::specs::Laws::CheckLaws::check_room, crate::specs::Laws::CheckLaws::check_late, crate::specs::Laws::CheckLaws::check_done))]
 fn judge_with(
     m: &[u8],
     v: Service,
@@ -265,6 +282,7 @@ fn judge_with(
 }
 
 // The same of an order, with its chart.
+#[tactic(auto, using(crate::specs::Laws::ChecksLaws::begun_paymul))]
 fn judge_order(m: &[u8], v: Service, kind: Kind, misfit: Fault, room: Room) -> Report
     requires sorted { Sorted kind v m.now misfit }
     requires kind_value { kind ≡ Paymul }
@@ -275,6 +293,7 @@ fn judge_order(m: &[u8], v: Service, kind: Kind, misfit: Fault, room: Room) -> R
 }
 
 // The same of an advice, with its chart.
+#[tactic(auto, using(crate::specs::Laws::ChecksLaws::begun_debmul))]
 fn judge_advice(m: &[u8], v: Service, kind: Kind, misfit: Fault, room: Room) -> Report
     requires sorted { Sorted kind v m.now misfit }
     requires kind_value { kind ≡ Debmul }
@@ -296,6 +315,7 @@ fn judge_placed(m: &[u8], v: Service, kind: Kind, misfit: Fault, room: Room) -> 
 }
 
 // The lists of an order with such counts.
+#[tactic(auto, using(crate::specs::Laws::FillLaws::lists_order))]
 fn put_order(
     m: &[u8],
     v: Service,
@@ -311,6 +331,7 @@ fn put_order(
 }
 
 // The lists of an advice with such counts.
+#[tactic(auto, using(crate::specs::Laws::FillLaws::lists_advice))]
 fn put_advice(
     m: &[u8],
     v: Service,
@@ -326,6 +347,7 @@ fn put_advice(
 }
 
 // The lists of a message of a kind with such counts.
+#[tactic(auto, using(crate::specs::Laws::FillLaws::lists_kind))]
 fn put_all(
     m: &[u8],
     v: Service,
@@ -344,6 +366,7 @@ fn put_all(
 }
 
 // The lists of a message with this report: of one that is refused nothing is written.
+#[tactic(auto, using(crate::specs::Laws::FillLaws::lists_accepted, crate::specs::Laws::FillLaws::lists_refused))]
 fn put_accepted(
     m: &[u8],
     v: Service,
@@ -361,6 +384,7 @@ fn put_accepted(
 }
 
 // The report of a message's bytes, which begin with its UNH: judged as with lists of this room; then, if it is accepted and they are long enough, those that are lent are written.
+#[tactic(auto, using(crate::specs::Laws::CheckLaws::check_outright))]
 fn check_in(
     m: &[u8],
     v: Service,
@@ -384,6 +408,7 @@ fn check_in(
 }
 
 // The report of a message's bytes as if every list were long enough: no message has more segments than bytes. None is lent, so that none is written.
+#[tactic(auto, using(crate::specs::Laws::JudgeLaws::judge_enough))]
 pub fn judge(m: &[u8], v: Service) -> Report
     ensures { Judged v m.now result }
 {
@@ -400,6 +425,7 @@ pub fn judge(m: &[u8], v: Service) -> Report
 }
 
 // The report of a message's bytes: judged, and its lists written if it is accepted.
+#[tactic(auto, using(crate::specs::Laws::JudgeLaws::report_by))]
 pub fn check(
     m: &[u8],
     v: Service,

@@ -1,4 +1,6 @@
 // An interchange rewritten in plain service characters.
+#![tactic(auto)]
+
 ghost use Rattle.std.specs.Prelude.{◌≤◌, ◌≡◌, true, false, [], ◌∷◌, ◌++◌, length, drop, replicate};
 ghost use Rattle.parts.specs.Parts.{lex};
 ghost use Rattle.parts.specs.Trimmed.{values_at, values_from};
@@ -19,6 +21,7 @@ pub enum Rewriting {
 }
 
 // Whether a byte of a value is written with a release before it.
+#[tactic(auto, using(crate::specs::Laws::LengthLaws::released_comp, crate::specs::Laws::LengthLaws::released_elem, crate::specs::Laws::LengthLaws::released_rel, crate::specs::Laws::LengthLaws::released_term))]
 fn is_released(b: u8) -> bool
     ensures { result ≡ is_released b }
 {
@@ -35,6 +38,7 @@ fn is_released(b: u8) -> bool
 }
 
 // How many bytes a byte of a value takes.
+#[tactic(auto, using(crate::specs::Laws::LengthLaws::width_two, crate::specs::Laws::LengthLaws::width_one))]
 fn width(b: u8) -> usize
     ensures { result ≡ length (plain_byte b) }
 {
@@ -45,6 +49,7 @@ fn width(b: u8) -> usize
 }
 
 // Whether the segment at `at` begins with a CR or LF.
+#[tactic(auto, using(crate::specs::Laws::LengthLaws::leads_cr, crate::specs::Laws::LengthLaws::leads_lf, crate::specs::Laws::LengthLaws::leads_comp, crate::specs::Laws::LengthLaws::leads_elem, crate::specs::Laws::LengthLaws::leads_stop))]
 fn begins_with_break(s: &[u8], at: usize, v: Service) -> bool
     ensures { result ≡ leads (lex v false (drop at s.now)) }
 {
@@ -64,6 +69,7 @@ fn begins_with_break(s: &[u8], at: usize, v: Service) -> bool
 
 // How many bytes the segment at `at` takes, a release before a CR or LF that begins it and its terminator not counted: separators count only if a
 // byte follows them.
+#[tactic(auto, using(parts::proofs::Laws::LexLaws::less_byte, parts::proofs::Laws::LexLaws::less_comp, parts::proofs::Laws::LexLaws::less_elem, crate::specs::Laws::LengthLaws::counted_start, crate::specs::Laws::LengthLaws::count_add, crate::specs::Laws::LengthLaws::count_sum, crate::specs::Laws::LengthLaws::count_width, crate::specs::Laws::LengthLaws::count_one_comp, crate::specs::Laws::LengthLaws::count_one_elem, crate::specs::Laws::LengthLaws::count_most, crate::specs::Laws::LengthLaws::count_byte, crate::specs::Laws::LengthLaws::count_comp, crate::specs::Laws::LengthLaws::count_elem, crate::specs::Laws::LengthLaws::count_stop))]
 fn flat_length(s: &[u8], at: usize, v: Service) -> usize
     requires { length s.now ≤ 1048576 }
     ensures value { result ≡ length (flat 0 0 (lex v false (drop at s.now))) }
@@ -99,6 +105,7 @@ fn flat_length(s: &[u8], at: usize, v: Service) -> usize
 }
 
 // How many bytes the segment at `at` takes, its terminator not counted.
+#[tactic(auto, using(crate::specs::Laws::LengthLaws::length_led, crate::specs::Laws::LengthLaws::length_plain))]
 fn plain_length(s: &[u8], at: usize, v: Service) -> usize
     requires { length s.now ≤ 1048576 }
     ensures value { result ≡ length (plain_segment (values_at v s.now at)) }
@@ -112,6 +119,7 @@ fn plain_length(s: &[u8], at: usize, v: Service) -> usize
 }
 
 // How many bytes the segments from `at` on take.
+#[tactic(auto, using(segments::specs::Laws::SegmentsLaws::less_segment, crate::specs::Laws::LengthLaws::summed_start, crate::specs::Laws::LengthLaws::sum_unfinished, crate::specs::Laws::LengthLaws::sum_nothing, crate::specs::Laws::LengthLaws::sum_fits, crate::specs::Laws::LengthLaws::sum_one_fits, crate::specs::Laws::LengthLaws::sum_next))]
 fn total_length(s: &[u8], at: usize, v: Service) -> usize
     requires { length s.now ≤ 1048576 }
     ensures { result ≡ length (plain (values_from v s.now at)) }
@@ -136,6 +144,7 @@ fn total_length(s: &[u8], at: usize, v: Service) -> usize
 }
 
 // Puts a byte `n` times from `j` on, and gives the place past it.
+#[tactic(auto, using(lent::specs::Laws::PutsLaws::putting_start, crate::specs::Laws::PutsLaws::times_put, crate::specs::Laws::PutsLaws::times_done))]
 fn put_times(out: &mut [u8], j: usize, b: u8, n: usize) -> usize
     ensures { Puts j (replicate n b) out.old out.new result }
 {
@@ -149,6 +158,7 @@ fn put_times(out: &mut [u8], j: usize, b: u8, n: usize) -> usize
 }
 
 // Puts a byte of a value at `j`, with a release before it if it needs one, and gives the place past it.
+#[tactic(auto, using(crate::specs::Laws::PutsLaws::byte_released, crate::specs::Laws::PutsLaws::byte_plain))]
 fn put_value_byte(out: &mut [u8], j: usize, b: u8) -> usize
     ensures { Puts j (plain_byte b) out.old out.new result }
 {
@@ -160,6 +170,7 @@ fn put_value_byte(out: &mut [u8], j: usize, b: u8) -> usize
 }
 
 // Puts the release before a CR or LF that begins the segment at `at`, if it does, and gives the place past it.
+#[tactic(auto, using(crate::specs::Laws::WriteLaws::lead_put, crate::specs::Laws::WriteLaws::lead_none))]
 fn put_lead(s: &[u8], at: usize, v: Service, out: &mut [u8], j: usize) -> usize
     ensures { Puts j (lead (lex v false (drop at s.now))) out.old out.new result }
 {
@@ -170,6 +181,7 @@ fn put_lead(s: &[u8], at: usize, v: Service, out: &mut [u8], j: usize) -> usize
 }
 
 // Puts the values of the segment at `at` from `from` on, and gives the place past them.
+#[tactic(auto, using(parts::proofs::Laws::LexLaws::less_byte, parts::proofs::Laws::LexLaws::less_comp, parts::proofs::Laws::LexLaws::less_elem, crate::specs::Laws::WriteLaws::flow_start, crate::specs::Laws::WriteLaws::flow_byte, crate::specs::Laws::WriteLaws::flow_comp, crate::specs::Laws::WriteLaws::flow_elem, crate::specs::Laws::WriteLaws::flow_stop, crate::specs::Laws::WriteLaws::flow_comp_fits, crate::specs::Laws::WriteLaws::flow_elem_fits))]
 fn put_flat(s: &[u8], at: usize, v: Service, out: &mut [u8], from: usize) -> usize
     ensures { Puts from (flat 0 0 (lex v false (drop at s.now))) out.old out.new result }
 {
@@ -205,6 +217,7 @@ fn put_flat(s: &[u8], at: usize, v: Service, out: &mut [u8], from: usize) -> usi
 }
 
 // Puts the segment at `at` from `from` on, with its terminator, and gives the place past it.
+#[tactic(auto, using(crate::specs::Laws::WriteLaws::segment_put))]
 fn put_segment(s: &[u8], at: usize, v: Service, out: &mut [u8], from: usize) -> usize
     ensures { Puts from (plain_segment (values_at v s.now at) ++ 39 ∷ []) out.old out.new result }
 {
@@ -214,6 +227,7 @@ fn put_segment(s: &[u8], at: usize, v: Service, out: &mut [u8], from: usize) -> 
 }
 
 // Puts the segments from `at` on, and gives the place past them.
+#[tactic(auto, using(segments::specs::Laws::SegmentsLaws::less_segment, lent::specs::Laws::PutsLaws::putting_start, crate::specs::Laws::WriteLaws::segments_put, crate::specs::Laws::WriteLaws::segments_unfinished, crate::specs::Laws::WriteLaws::segments_nothing))]
 fn put_segments(s: &[u8], at: usize, v: Service, out: &mut [u8]) -> usize
     ensures { Puts 0 (plain (values_from v s.now at)) out.old out.new result }
 {
@@ -237,6 +251,7 @@ fn put_segments(s: &[u8], at: usize, v: Service, out: &mut [u8]) -> usize
 }
 
 // Whether a result of `n` bytes fits the room and the limit.
+#[tactic(auto, using(crate::specs::Laws::RoomLaws::fits_long, crate::specs::Laws::RoomLaws::fits_short))]
 fn fits_room(n: usize, room: usize) -> bool
     ensures { result ≡ fits n room }
 {
@@ -247,6 +262,7 @@ fn fits_room(n: usize, room: usize) -> bool
 }
 
 // Writes the interchange in plain service characters to the front of `out`.
+#[tactic(auto, using(interchange::specs::Laws::WithinLaws::opened_short, crate::specs::Laws::RoomLaws::refused_answer, crate::specs::Laws::RoomLaws::refused_room, crate::specs::Laws::RoomLaws::long_answer, crate::specs::Laws::RoomLaws::long_room, crate::specs::Laws::RoomLaws::written_answer, crate::specs::Laws::RoomLaws::written_room))]
 pub fn rewrite(s: &[u8], out: &mut [u8]) -> Rewriting
     ensures value { result ≡ rewriting_of s.now (length out.old) }
     ensures out_after { out.new ≡ room_after s.now out.old }

@@ -1,4 +1,6 @@
 // What must hold of a placed message: one loop over its segments and their rows, and the rule of the lowest number that is broken.
+#![tactic(auto)]
+
 ghost use Rattle.std.specs.Prelude.{◌≡◌};
 ghost use Rattle.message.specs.Rules.{paymul_of};
 ghost use Rattle.message.specs.Faults.{tell_all, least_of};
@@ -13,6 +15,7 @@ use table::COLUMNS;
 use trailer::Trailer;
 
 // Whether 20, 21 and 29 speak of a row.
+#[tactic(auto, using(crate::specs::Laws::RowLaws::on_first_lem, crate::specs::Laws::RowLaws::on_second, crate::specs::Laws::RowLaws::on_neither))]
 fn on_numbers(row: usize) -> bool
     ensures { result ≡ on_numbers row }
 {
@@ -24,6 +27,7 @@ fn on_numbers(row: usize) -> bool
 }
 
 // Whether 22 to 26 speak of a row.
+#[tactic(auto, using(crate::specs::Laws::RowLaws::on_first_lem, crate::specs::Laws::RowLaws::on_second, crate::specs::Laws::RowLaws::on_neither))]
 fn on_amounts(row: usize) -> bool
     ensures { result ≡ on_amounts row }
 {
@@ -35,6 +39,7 @@ fn on_amounts(row: usize) -> bool
 }
 
 // Whether 27 speaks of a row.
+#[tactic(auto, using(crate::specs::Laws::RowLaws::on_first_lem, crate::specs::Laws::RowLaws::on_second, crate::specs::Laws::RowLaws::on_neither))]
 fn on_parties(row: usize) -> bool
     ensures { result ≡ on_parties row }
 {
@@ -46,6 +51,7 @@ fn on_parties(row: usize) -> bool
 }
 
 // Whether 28 speaks of a row.
+#[tactic(auto, using(crate::specs::Laws::RowLaws::on_first_lem, crate::specs::Laws::RowLaws::on_second, crate::specs::Laws::RowLaws::on_neither))]
 fn on_details(row: usize) -> bool
     ensures { result ≡ on_details row }
 {
@@ -57,6 +63,7 @@ fn on_details(row: usize) -> bool
 }
 
 // The faults of amounts, before another.
+#[tactic(auto, using(crate::specs::Laws::StepLaws::amounts_by))]
 fn of_amounts(a: Amounts, other: Fault) -> Fault
     ensures { result ≡ amounts_first a other }
 {
@@ -73,6 +80,7 @@ fn of_amounts(a: Amounts, other: Fault) -> Fault
 }
 
 // The faults of LIN and SEQ numbers, before another.
+#[tactic(auto, using(crate::specs::Laws::StepLaws::numbers_by))]
 fn of_numbers(n: Numbering, other: Fault) -> Fault
     ensures { result ≡ numbers_first n other }
 {
@@ -83,6 +91,7 @@ fn of_numbers(n: Numbering, other: Fault) -> Fault
 }
 
 // The faults of the trailer, before another.
+#[tactic(auto, using(crate::specs::Laws::StepLaws::trailer_by))]
 fn of_trailer(t: Trailer, other: Fault) -> Fault
     ensures { result ≡ trailer_first t other }
 {
@@ -93,6 +102,7 @@ fn of_trailer(t: Trailer, other: Fault) -> Fault
 }
 
 // The rule of the lowest number that has a first place.
+#[tactic(auto, using(crate::specs::Laws::StepLaws::least_by))]
 fn least(t: Trailer, n: Numbering, a: Amounts, f27: First, f28: First) -> Fault
     ensures { result ≡ least_first t n a f27 f28 }
 {
@@ -106,6 +116,7 @@ fn least(t: Trailer, n: Numbering, a: Amounts, f27: First, f28: First) -> Fault
 }
 
 // The rule of the lowest number that is broken, and the first segment under it, in a message of so many segments and LIN segments on a table.
+#[tactic(auto, using(crate::specs::Laws::StepLaws::judging_first, crate::specs::Laws::StepLaws::judging_fits, crate::specs::Laws::StepLaws::judging_next, crate::specs::Laws::StepLaws::judging_end, crate::specs::Laws::StepLaws::judged, chart::specs::Laws::CursorLaws::onward_less))]
 pub fn judge(m: &[u8], v: Service, t: &[[u8; COLUMNS]], segments: u64, orders: u64) -> Fault
     ensures { result ≡ least_of (tell_all (paymul_of segments orders (placed_on t.now v m.now))) }
 {

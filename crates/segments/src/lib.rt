@@ -1,4 +1,6 @@
 // Bytes to segments: what a byte is, where a segment ends, and where the next one begins.
+#![tactic(auto)]
+
 ghost use Rattle.std.specs.Prelude.{◌≡◌, false, ◌+◌, ◌<◌, ◌≤◌, eqb, length, drop};
 ghost use Rattle.std.specs.Int.Count.{count_trailing_zeros};
 ghost use Rattle.segments.specs.Classes.{class_of};
@@ -33,6 +35,7 @@ pub enum Segment {
 }
 
 // What a byte is, where no release stands before it.
+#[tactic(auto, unfolding(crate::specs::Classes::class_of))]
 pub fn classify(v: Service, b: u8) -> Class
     ensures { result ≡ class_of v b }
 {
@@ -55,6 +58,7 @@ pub fn classify(v: Service, b: u8) -> Class
 }
 
 // What an unreleased byte that is no terminator equals exactly if it is a release: the terminator itself, where there is none.
+#[tactic(auto, using(crate::specs::Laws::BytesLaws::release_rel, crate::proofs::Laws::release_other))]
 fn release_of(v: Service) -> u8
     ensures { result ≡ release_of v }
 {
@@ -110,6 +114,7 @@ fn below(m: u32) -> usize
 }
 
 // Eight bytes at a time, up to the first byte that is `x` or to the last few: what is found from there is what is found from `at`.
+#[tactic(auto, using(crate::specs::Laws::FindLaws::first_eight, crate::specs::Laws::FindLaws::first_met, crate::specs::Laws::FindLaws::met_fits))]
 fn eights(s: &[u8], at: usize, x: u8) -> usize
     ensures { first_of x at (drop at s.now) ≡ first_of x result (drop result s.now) }
 {
@@ -128,6 +133,7 @@ fn eights(s: &[u8], at: usize, x: u8) -> usize
 }
 
 // The first index at or after `at` whose byte is `x`; where there is none, an index at or past the end.
+#[tactic(auto, using(crate::specs::Laws::FindLaws::first_none, crate::specs::Laws::FindLaws::first_here, crate::specs::Laws::FindLaws::first_on))]
 fn find(s: &[u8], at: usize, x: u8) -> usize
     ensures { result ≡ first_of x at (drop at s.now) }
 {
@@ -142,6 +148,7 @@ fn find(s: &[u8], at: usize, x: u8) -> usize
 }
 
 // The first unreleased terminator at or after `at`, byte by byte.
+#[tactic(auto, using(crate::specs::Laws::BytesLaws::end_none, crate::specs::Laws::BytesLaws::end_term, crate::specs::Laws::BytesLaws::end_rel, crate::specs::Laws::BytesLaws::end_on))]
 fn slow_end(s: &[u8], at: usize, v: Service) -> End
     ensures { result ≡ end_from v false at (drop at s.now) }
 {
@@ -163,6 +170,7 @@ fn slow_end(s: &[u8], at: usize, v: Service) -> End
 }
 
 // Whether the byte before `p`, at or after `at`, is the one named as the release: if not, the byte at `p` is not released.
+#[tactic(auto, using(crate::specs::Laws::BytesLaws::follows_near, crate::specs::Laws::BytesLaws::follows_far))]
 fn follows_release(s: &[u8], at: usize, p: usize, v: Service) -> bool
     requires { p < length s.now }
     ensures { result ≡ follows_release v at p s.now }
@@ -175,6 +183,7 @@ fn follows_release(s: &[u8], at: usize, p: usize, v: Service) -> bool
 }
 
 // The first unreleased terminator at or after `at`.
+#[tactic(auto, using(crate::specs::Laws::FindLaws::end_nowhere, crate::specs::Laws::FindLaws::end_first))]
 fn segment_end(s: &[u8], at: usize, v: Service) -> End
     ensures { result ≡ end_from v false at (drop at s.now) }
 {
@@ -189,6 +198,7 @@ fn segment_end(s: &[u8], at: usize, v: Service) -> End
 }
 
 // The first index at or after `at` that is no CR and no LF.
+#[tactic(auto, using(crate::specs::Laws::BytesLaws::breaks_cr, crate::specs::Laws::BytesLaws::breaks_lf, crate::specs::Laws::BytesLaws::breaks_end, crate::specs::Laws::BytesLaws::breaks_none))]
 pub fn skip_breaks(s: &[u8], at: usize) -> usize
     ensures { result ≡ past_breaks at (drop at s.now) }
 {
@@ -207,6 +217,7 @@ pub fn skip_breaks(s: &[u8], at: usize) -> usize
 }
 
 // The segment that begins at `at`.
+#[tactic(auto, using(crate::specs::Laws::SegmentsLaws::segment_nothing, crate::specs::Laws::SegmentsLaws::segment_unfinished, crate::specs::Laws::SegmentsLaws::segment_finished, crate::specs::Laws::SegmentsLaws::segment_fits))]
 pub fn segment_at(s: &[u8], at: usize, v: Service) -> Segment
     ensures { result ≡ segment_at v at s.now }
 {

@@ -1,4 +1,6 @@
 // The service characters of an interchange: those that UNA names, or the plain ones.
+#![tactic(auto)]
+
 ghost use Rattle.std.specs.Prelude.{◌≡◌, [], ◌∷◌, not, ◌&&◌, ◌||◌, get_or};
 ghost use Rattle.service.specs.Service.{plain_service, is_alphanumeric, serves, is_mark, among, distinct, named_by, serving_by, fitting, begins_una, characters_of};
 
@@ -32,6 +34,7 @@ fn plain() -> Service
 }
 
 // A letter or a digit.
+#[tactic(auto, using(crate::specs::Laws::ServiceLaws::alpha_low, crate::specs::Laws::ServiceLaws::alpha_digit, crate::specs::Laws::ServiceLaws::alpha_between, crate::specs::Laws::ServiceLaws::alpha_capital, crate::specs::Laws::ServiceLaws::alpha_after, crate::specs::Laws::ServiceLaws::alpha_small))]
 fn is_alphanumeric(b: u8) -> bool
     ensures { result ≡ is_alphanumeric b }
 {
@@ -54,6 +57,7 @@ fn is_alphanumeric(b: u8) -> bool
 }
 
 // Whether a byte lies in 0x21 to 0x7E and is no letter or digit.
+#[tactic(auto, using(crate::specs::Laws::ServiceLaws::serves_low, crate::specs::Laws::ServiceLaws::serves_high, crate::specs::Laws::ServiceLaws::serves_not, crate::specs::Laws::ServiceLaws::serves_so))]
 fn may_serve(b: u8) -> bool
     ensures { result ≡ serves b }
 {
@@ -70,6 +74,7 @@ fn may_serve(b: u8) -> bool
 }
 
 // A comma or a dot.
+#[tactic(auto, using(crate::specs::Laws::ServiceLaws::mark_comma, crate::specs::Laws::ServiceLaws::mark_dot))]
 pub fn is_mark(b: u8) -> bool
     ensures { result ≡ is_mark b }
 {
@@ -80,6 +85,7 @@ pub fn is_mark(b: u8) -> bool
 }
 
 // Whether the byte is none of the four.
+#[tactic(auto, using(crate::specs::Laws::ServiceLaws::none_first, crate::specs::Laws::ServiceLaws::none_second, crate::specs::Laws::ServiceLaws::none_third, crate::specs::Laws::ServiceLaws::none_fourth))]
 fn is_none_of(b: u8, w: u8, x: u8, y: u8, z: u8) -> bool
     ensures { result ≡ not (among b (w ∷ x ∷ y ∷ z ∷ [])) }
 {
@@ -96,6 +102,7 @@ fn is_none_of(b: u8, w: u8, x: u8, y: u8, z: u8) -> bool
 }
 
 // Whether three bytes all differ.
+#[tactic(auto, using(crate::specs::Laws::ServiceLaws::three_first, crate::specs::Laws::ServiceLaws::three_second, crate::specs::Laws::ServiceLaws::three_third))]
 fn three_differ(a: u8, b: u8, c: u8) -> bool
     ensures { result ≡ distinct (a ∷ b ∷ c ∷ []) }
 {
@@ -109,6 +116,7 @@ fn three_differ(a: u8, b: u8, c: u8) -> bool
 }
 
 // Whether five bytes all differ.
+#[tactic(auto, using(crate::specs::Laws::ServiceLaws::differ_first, crate::specs::Laws::ServiceLaws::differ_second, crate::specs::Laws::ServiceLaws::differ_rest))]
 fn all_differ(a: u8, b: u8, c: u8, d: u8, e: u8) -> bool
     ensures { result ≡ distinct (a ∷ b ∷ c ∷ d ∷ e ∷ []) }
 {
@@ -121,6 +129,7 @@ fn all_differ(a: u8, b: u8, c: u8, d: u8, e: u8) -> bool
 }
 
 // Whether there is no release, or one that is fit.
+#[tactic(auto, using(crate::specs::Laws::ServiceLaws::release_none, crate::specs::Laws::ServiceLaws::release_fits))]
 fn release_fits(v: Service) -> bool
     ensures { result ≡ (not v.releases || serves v.release) }
 {
@@ -131,6 +140,7 @@ fn release_fits(v: Service) -> bool
 }
 
 // Whether each of the characters is fit by itself.
+#[tactic(auto, using(crate::specs::Laws::ServiceLaws::each_first, crate::specs::Laws::ServiceLaws::each_second, crate::specs::Laws::ServiceLaws::each_third, crate::specs::Laws::ServiceLaws::each_fits))]
 fn each_fits(v: Service) -> bool
     ensures { result ≡ (serves v.component && (serves v.element && (serves v.terminator && (not v.releases || serves v.release)))) }
 {
@@ -145,6 +155,7 @@ fn each_fits(v: Service) -> bool
 }
 
 // Whether those of the characters that are there all differ.
+#[tactic(auto, using(crate::specs::Laws::ServiceLaws::present_three, crate::specs::Laws::ServiceLaws::present_not, crate::specs::Laws::ServiceLaws::present_four))]
 fn present_differ(v: Service) -> bool
     ensures { result ≡ distinct (serving_by v.releases v) }
 {
@@ -164,6 +175,7 @@ fn present_differ(v: Service) -> bool
 }
 
 // Whether a reader may go by the characters.
+#[tactic(auto, using(crate::specs::Laws::ServiceLaws::fitting_not, crate::specs::Laws::ServiceLaws::fitting_each))]
 pub fn fits(v: Service) -> bool
     ensures { result ≡ fitting v }
 {
@@ -174,6 +186,7 @@ pub fn fits(v: Service) -> bool
 }
 
 // The characters that the six bytes after UNA name. A space for the release means that there is none.
+#[tactic(auto, using(crate::specs::Laws::ServiceLaws::named_no_space, crate::specs::Laws::ServiceLaws::named_same, crate::specs::Laws::ServiceLaws::named_unfit, crate::specs::Laws::ServiceLaws::named_no_mark))]
 fn named(s: [u8; 6]) -> Characters
     ensures { result ≡ named_by (get_or s 0 0) (get_or s 1 0) (get_or s 2 0) (get_or s 3 0) (get_or s 4 0) (get_or s 5 0) }
 {
@@ -198,6 +211,7 @@ fn named(s: [u8; 6]) -> Characters
 }
 
 // Whether the bytes begin with UNA.
+#[tactic(auto, using(crate::specs::Laws::ServiceLaws::una_short, crate::specs::Laws::ServiceLaws::una_first, crate::specs::Laws::ServiceLaws::una_second, crate::specs::Laws::ServiceLaws::una_third))]
 fn begins_with_una(s: &[u8]) -> bool
     ensures { result ≡ begins_una s.now }
 {
@@ -213,6 +227,7 @@ fn begins_with_una(s: &[u8]) -> bool
 }
 
 // The service characters of an interchange.
+#[tactic(auto, using(crate::specs::Laws::ServiceLaws::characters_without, crate::specs::Laws::ServiceLaws::characters_cut, crate::specs::Laws::ServiceLaws::characters_named))]
 pub fn characters_of(s: &[u8]) -> Characters
     ensures { result ≡ characters_of s.now }
 {

@@ -1,5 +1,7 @@
 // What a line of a chart's table says: its tag's letters (of a group, those of its first segment), its parent, the first row past those
 // inside it, the letter of its status, and how often it may come, in hundreds and ones.
+#![tactic(auto)]
+
 pub const COLUMNS: usize = 8;
 
 pub const PARENT: usize = 3;

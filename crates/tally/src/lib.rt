@@ -1,4 +1,6 @@
 // A message's bytes gone over once: the first byte that no value may have, its segments counted, its first UNT.
+#![tactic(auto)]
+
 ghost use Rattle.std.specs.Prelude.{◌+◌, ◌≤◌, ◌<◌, ◌≡◌, length};
 ghost use Rattle.parts.specs.Parts.{is_strange};
 ghost use Rattle.segments.specs.SegmentList.{segments_from, start_at};
@@ -22,6 +24,7 @@ pub struct Tally {
 }
 
 // Whether no value may have the byte: neither 0x20 to 0x7E nor 0xA0 to 0xFF.
+#[tactic(auto, using(crate::specs::Laws::TalliedLaws::strange_by_lem))]
 fn is_strange(b: u8) -> bool
     ensures { result ≡ is_strange b }
 {
@@ -29,6 +32,7 @@ fn is_strange(b: u8) -> bool
 }
 
 // Whether no value may have one of the eight bytes from `i` on.
+#[tactic(auto, using(crate::specs::Laws::TalliedLaws::eight_by))]
 fn has_strange(m: &[u8], i: usize) -> bool
     requires { i + 8 ≤ length m.now }
     ensures { result ≡ eight_strange m.now i }
@@ -44,6 +48,7 @@ fn has_strange(m: &[u8], i: usize) -> bool
 }
 
 // Past bytes that values may have, eight at a time: the first bad byte from there is that from `from`.
+#[tactic(auto, using(crate::specs::Laws::TalliedLaws::bad_eight))]
 fn past_eights(m: &[u8], from: usize, to: usize) -> usize
     requires { to ≤ length m.now }
     ensures { bad_between m.now from to ≡ bad_between m.now result to }
@@ -63,6 +68,7 @@ fn past_eights(m: &[u8], from: usize, to: usize) -> usize
 }
 
 // The first byte from `from` on that no value may have, before `to`.
+#[tactic(auto, using(crate::specs::Laws::TalliedLaws::bad_past, crate::specs::Laws::TalliedLaws::bad_here, crate::specs::Laws::TalliedLaws::bad_on))]
 fn bad_byte(m: &[u8], from: usize, to: usize) -> First
     requires { to ≤ length m.now }
     ensures { result ≡ bad_between m.now from to }
@@ -77,6 +83,7 @@ fn bad_byte(m: &[u8], from: usize, to: usize) -> First
     First::None
 }
 
+#[tactic(auto, using(crate::specs::Laws::TalliedLaws::count_some, crate::specs::Laws::TalliedLaws::count_none))]
 fn count_if(holds: bool, n: usize) -> usize
     requires { n < 18446744073709551615 }
     ensures { result ≡ n + one_if holds }
@@ -85,6 +92,7 @@ fn count_if(holds: bool, n: usize) -> usize
 }
 
 // One finished segment more: it begins at `at`, and its terminator stands at `end`.
+#[tactic(auto, using(crate::specs::Laws::TalliedLaws::count_by))]
 fn count(t: Tally, m: &[u8], at: usize, end: usize, tag: u64) -> Tally
     requires { Few t at × (at < length m.now) × (end ≤ length m.now) }
     ensures { result ≡ together t (finished_one m.now at end tag) }
@@ -104,6 +112,7 @@ fn count(t: Tally, m: &[u8], at: usize, end: usize, tag: u64) -> Tally
 }
 
 // The tally with the bytes from `at` on, which are no finished segment.
+#[tactic(auto, using(crate::specs::Laws::TalliedLaws::finish_by))]
 fn finish(t: Tally, m: &[u8], at: usize) -> Tally
     ensures { result ≡ together t (unfinished_one m.now at (length m.now)) }
 {
@@ -120,6 +129,7 @@ fn finish(t: Tally, m: &[u8], at: usize) -> Tally
     }
 }
 
+#[tactic(auto, using(segments::specs::Laws::SegmentsLaws::less_segment, crate::specs::Laws::FewLaws::few_here, crate::specs::Laws::FewLaws::end_here, crate::specs::Laws::TalliedLaws::tally_start, crate::specs::Laws::TalliedLaws::tally_nothing, crate::specs::Laws::TalliedLaws::tally_unfinished, crate::specs::Laws::TalliedLaws::tally_finished, crate::specs::Laws::TalliedLaws::few_together))]
 pub fn tally_of(m: &[u8], v: Service) -> Tally
     ensures { result ≡ tally_of v m.now (segments_from v m.now 0) }
 {
@@ -150,6 +160,7 @@ pub fn tally_of(m: &[u8], v: Service) -> Tally
 }
 
 // How many segments stand before the one that holds the byte at `at`.
+#[tactic(auto, using(segments::specs::Laws::SegmentsLaws::less_segment, segments::specs::Laws::SegmentsLaws::segment_count_fits, segments::specs::Laws::SegmentsLaws::segment_count, crate::specs::Laws::PlacesLaws::passed_nothing, crate::specs::Laws::PlacesLaws::passed_unfinished, crate::specs::Laws::PlacesLaws::passed_here, crate::specs::Laws::PlacesLaws::passed_on))]
 pub fn segments_before(m: &[u8], v: Service, at: usize) -> usize
     ensures { result ≡ passed (length m.now) at (segments_from v m.now 0) }
 {
@@ -176,6 +187,7 @@ pub fn segments_before(m: &[u8], v: Service, at: usize) -> usize
 }
 
 // Where the segment with `before` segments before it begins; the end of the bytes where there are fewer.
+#[tactic(auto, using(segments::specs::Laws::SegmentsLaws::less_segment, crate::specs::Laws::PlacesLaws::after_here, crate::specs::Laws::PlacesLaws::after_nothing, crate::specs::Laws::PlacesLaws::after_unfinished, crate::specs::Laws::PlacesLaws::after_on, crate::specs::Laws::PlacesLaws::after_within, crate::specs::Laws::PlacesLaws::after_start))]
 pub fn segment_start(m: &[u8], v: Service, before: usize) -> usize
     ensures { result ≡ start_at v m.now before }
 {

@@ -1,4 +1,6 @@
 // The trailer: UNT's count is the number of segments, and its reference is UNH's: 17 and 18.
+#![tactic(auto)]
+
 ghost use Rattle.std.specs.Prelude.{◌≡◌};
 ghost use Rattle.values.specs.Numbers.{value_in};
 ghost use Rattle.trailer.specs.Forms.Steps.{trailer_start, taken};
@@ -22,6 +24,7 @@ pub fn start() -> Trailer
 }
 
 // The UNT at `at`, the nth segment, of a message with so many segments. The UNH, whose reference it repeats, begins the message.
+#[tactic(auto, using(crate::specs::Laws::StepLaws::taken_by))]
 pub fn step(st: Trailer, m: &[u8], v: Service, at: usize, nth: usize, segments: u64) -> Trailer
     ensures { result ≡ taken segments (value_in v 0 m.now 1 0) st (value_in v at m.now) nth }
 {

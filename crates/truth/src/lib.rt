@@ -1,4 +1,6 @@
 // And, or and not as functions, so that code that combines answers stays straight.
+#![tactic(auto)]
+
 ghost use Rattle.std.specs.Prelude.{◌≡◌, not, ◌&&◌, ◌||◌};
 
 pub fn both(a: bool, b: bool) -> bool

@@ -1,4 +1,6 @@
-// The calls for C: open, walk from one position or from several, check, close and rewrite on byte slices and numbers. include/twineherald.h declares them.
+// The calls that C makes, by the crate twineherald_c: open, walk from one position or from several, check, close and rewrite on byte slices and numbers.
+#![tactic(auto)]
+
 ghost use Rattle.std.specs.Prelude.{◌≡◌, ◌%◌, ◌≤◌, length};
 ghost use Rattle.lent.specs.Lists.{lists};
 ghost use Rattle.report.specs.Forms.Few.{Few, FewIn};
@@ -79,6 +81,7 @@ fn nothing() -> ReportNumbers
     }
 }
 
+#[tactic(auto, using(crate::specs::Laws::NumbersLaws::accepted_by))]
 fn accepted(c: Counts) -> ReportNumbers
     requires { Few c }
     ensures { result ≡ accepted_of c }
@@ -93,6 +96,7 @@ fn accepted(c: Counts) -> ReportNumbers
     }
 }
 
+#[tactic(auto, using(report::specs::Laws::FewLaws::accepted_few, crate::specs::Laws::NumbersLaws::report_accepted, crate::specs::Laws::NumbersLaws::report_refused))]
 fn report_numbers(r: Report) -> ReportNumbers
     requires { FewIn r }
     ensures { result ≡ report_of r }
@@ -103,6 +107,7 @@ fn report_numbers(r: Report) -> ReportNumbers
     }
 }
 
+#[tactic(auto, using(crate::specs::Laws::NumbersLaws::step_by_lem))]
 fn step_numbers(found: u32, start: usize, end: usize, r: ReportNumbers) -> StepNumbers
     requires start_bound { start ≤ 1048576 }
     requires end_bound { end ≤ 1048576 }
@@ -116,6 +121,7 @@ fn step_numbers(found: u32, start: usize, end: usize, r: ReportNumbers) -> StepN
     }
 }
 
+#[tactic(auto, using(crate::specs::Laws::FewLaws::start_small, crate::specs::Laws::FewLaws::end_small, crate::specs::Laws::FewLaws::counts_few, crate::specs::Laws::NumbersLaws::step_message, crate::specs::Laws::NumbersLaws::step_nothing, crate::specs::Laws::NumbersLaws::step_refused))]
 fn step_of(w: Walked) -> StepNumbers
     requires { FewWalked w }
     ensures { result ≡ step_of w }
@@ -136,12 +142,14 @@ fn numbers_of(y: StepNumbers) -> [u32; 9]
     ]
 }
 
+#[tactic(auto, using(crate::specs::Laws::FewLaws::judge_few, crate::specs::Laws::SeveralLaws::answer_by))]
 fn answer_at(bytes: &[u8], at: usize) -> [u32; 9]
     ensures { Answered bytes.now at result }
 {
     numbers_of(step_of(walk::judge(bytes, at)))
 }
 
+#[tactic(auto, using(crate::specs::Laws::SeveralLaws::upto_none, crate::specs::Laws::SeveralLaws::upto_room, crate::specs::Laws::SeveralLaws::upto_next, crate::specs::Laws::SeveralLaws::upto_all, crate::specs::Laws::SeveralLaws::upto_same))]
 fn answer_each(bytes: &[u8], positions: &[usize], answers: &mut [[u32; 9]])
     requires { length positions.now ≤ length answers.old }
     ensures { AnsweredEach bytes.now positions.now answers.old answers.new }
@@ -154,8 +162,8 @@ fn answer_each(bytes: &[u8], positions: &[usize], answers: &mut [[u32; 9]])
     }
 }
 
-#[unsafe(no_mangle)]
-pub extern "C" fn twineherald_open(bytes: &[u8]) -> u32
+#[tactic(auto, using(crate::specs::Laws::NumbersLaws::open_opens, crate::specs::Laws::NumbersLaws::open_refused))]
+pub fn twineherald_open(bytes: &[u8]) -> u32
     ensures { OpenedWith bytes.now result }
 {
     let o = interchange::open(bytes);
@@ -165,8 +173,8 @@ pub extern "C" fn twineherald_open(bytes: &[u8]) -> u32
     }
 }
 
-#[unsafe(no_mangle)]
-pub extern "C" fn twineherald_walk(
+#[tactic(auto, using(crate::specs::Numbers::stepped, crate::specs::Laws::FewLaws::walk_few))]
+pub fn twineherald_walk(
     bytes: &[u8],
     at: usize,
     rows: &mut [u16],
@@ -178,12 +186,8 @@ pub extern "C" fn twineherald_walk(
     step_of(walk::walk(bytes, at, rows, starts, totals))
 }
 
-#[unsafe(no_mangle)]
-pub extern "C" fn twineherald_walk_each(
-    bytes: &[u8],
-    positions: &[usize],
-    answers: &mut [[u32; 9]],
-) -> u32
+#[tactic(auto, using(crate::specs::Laws::SeveralLaws::each_short, crate::specs::Laws::SeveralLaws::each_given))]
+pub fn twineherald_walk_each(bytes: &[u8], positions: &[usize], answers: &mut [[u32; 9]]) -> u32
     ensures { SteppedEach bytes.now positions.now answers.old answers.new result }
 {
     if answers.len() < positions.len() {
@@ -193,8 +197,8 @@ pub extern "C" fn twineherald_walk_each(
     0
 }
 
-#[unsafe(no_mangle)]
-pub extern "C" fn twineherald_check(
+#[tactic(auto, using(report::specs::Laws::FewLaws::report_few, crate::specs::Laws::NumbersLaws::check_fit, crate::specs::Laws::NumbersLaws::check_unfit))]
+pub fn twineherald_check(
     head: &[u8],
     message: &[u8],
     rows: &mut [u16],
@@ -213,8 +217,8 @@ pub extern "C" fn twineherald_check(
     }
 }
 
-#[unsafe(no_mangle)]
-pub extern "C" fn twineherald_close(bytes: &[u8]) -> ClosingNumbers
+#[tactic(auto, using(crate::specs::Laws::NumbersLaws::closing_by_lem))]
+pub fn twineherald_close(bytes: &[u8]) -> ClosingNumbers
     ensures { ClosedWith bytes.now result }
 {
     let c = interchange::close(bytes);
@@ -225,8 +229,8 @@ pub extern "C" fn twineherald_close(bytes: &[u8]) -> ClosingNumbers
     }
 }
 
-#[unsafe(no_mangle)]
-pub extern "C" fn twineherald_rewrite(bytes: &[u8], room: &mut [u8]) -> RewritingNumbers
+#[tactic(auto, using(crate::specs::Laws::NumbersLaws::written_by, crate::specs::Laws::NumbersLaws::refused_by))]
+pub fn twineherald_rewrite(bytes: &[u8], room: &mut [u8]) -> RewritingNumbers
     ensures { Rewritten bytes.now result room.old room.new }
 {
     let r = rewrite::rewrite(bytes, room);

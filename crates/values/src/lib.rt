@@ -1,5 +1,7 @@
 // What the values of a segment say: compared, measured, read as codes, numbers and amounts. A value is given by its segment, element and component, or by
 // the position where it begins.
+#![tactic(auto)]
+
 ghost use Rattle.std.specs.Prelude.{◌≡◌, length};
 ghost use Rattle.values.specs.Numbers.{value_from, value_in};
 ghost use Rattle.values.specs.Forms.Values.{next_at, number_of, one_more, part_of, whole_of, fraction, amount_of, code_of, is_number, is_capital, is_capitals};
@@ -37,6 +39,7 @@ enum Whole {
 }
 
 // The next byte of the value at `i`, released or not, and where the rest begins.
+#[tactic(auto, using(crate::specs::Laws::ValuesLaws::next_byte, crate::specs::Laws::ValuesLaws::next_comp, crate::specs::Laws::ValuesLaws::next_elem, crate::specs::Laws::ValuesLaws::next_stop))]
 fn next_at(s: &[u8], i: usize, v: Service) -> Next
     ensures { result ≡ next_at v i s.now }
 {
@@ -50,6 +53,7 @@ fn next_at(s: &[u8], i: usize, v: Service) -> Next
 }
 
 // Whether the values at `a` and at `b` are the same.
+#[tactic(auto, using(crate::specs::Laws::ValuesLaws::less_next, crate::specs::Laws::ValuesLaws::same_both, crate::specs::Laws::ValuesLaws::same_shorter, crate::specs::Laws::ValuesLaws::same_longer, crate::specs::Laws::ValuesLaws::same_other, crate::specs::Laws::ValuesLaws::same_on))]
 fn same_value(s: &[u8], a: usize, b: usize, v: Service) -> bool
     ensures { result ≡ same_list (value_from v a s.now) (value_from v b s.now) }
 {
@@ -85,6 +89,7 @@ fn same_value(s: &[u8], a: usize, b: usize, v: Service) -> bool
 }
 
 // How many bytes the value at `at` has.
+#[tactic(auto, using(crate::specs::Laws::ValuesLaws::len_below, crate::specs::Laws::ValuesLaws::less_next, crate::specs::Laws::ValuesLaws::len_on, crate::specs::Laws::ValuesLaws::next_later, crate::specs::Laws::ValuesLaws::len_done))]
 fn value_len(s: &[u8], at: usize, v: Service) -> usize
     ensures { result ≡ length (value_from v at s.now) }
 {
@@ -111,6 +116,7 @@ fn wide(b: u8) -> u64
 }
 
 // The value at `at` as one number: the digit 1 and then its bytes, to the base 256. It is 0 for more than seven bytes.
+#[tactic(auto, using(crate::specs::Laws::ValuesLaws::less_next, crate::specs::Laws::ValuesLaws::code_done, crate::specs::Laws::ValuesLaws::code_long, crate::specs::Laws::ValuesLaws::code_more))]
 pub fn code_at(s: &[u8], at: usize, v: Service) -> u64
     ensures { result ≡ code_of (value_from v at s.now) }
 {
@@ -134,6 +140,7 @@ pub fn code_at(s: &[u8], at: usize, v: Service) -> u64
 }
 
 // The number that the value at `at` writes: digits, no leading zero, below 10^19.
+#[tactic(auto, using(crate::specs::Laws::ValuesLaws::less_next, crate::specs::Laws::ValuesLaws::num_of, crate::specs::Laws::ValuesLaws::num_none, crate::specs::Laws::ValuesLaws::num_low, crate::specs::Laws::ValuesLaws::num_high, crate::specs::Laws::ValuesLaws::num_large, crate::specs::Laws::ValuesLaws::num_lead, crate::specs::Laws::ValuesLaws::num_more, crate::specs::Laws::ValuesLaws::num_first))]
 fn number_at(s: &[u8], at: usize, v: Service) -> Number
     ensures { result ≡ number_of (value_from v at s.now) }
 {
@@ -174,6 +181,7 @@ fn number_at(s: &[u8], at: usize, v: Service) -> Number
 }
 
 // The number that `acc` and then the digit `b` write, where `count` says whether a digit came before: no leading zero, at most twelve digits.
+#[tactic(auto, using(crate::specs::Laws::AmountLaws::more_low, crate::specs::Laws::AmountLaws::more_high, crate::specs::Laws::AmountLaws::more_large, crate::specs::Laws::AmountLaws::more_lead, crate::specs::Laws::AmountLaws::more_next, crate::specs::Laws::AmountLaws::more_first))]
 fn one_more(count: usize, acc: u64, b: u8) -> Number
     ensures { result ≡ one_more count acc b }
 {
@@ -195,6 +203,7 @@ fn one_more(count: usize, acc: u64, b: u8) -> Number
 }
 
 // The whole part of the amount at `at`: 1 to 12 digits with no leading zero, or none before a mark, which is 0.
+#[tactic(auto, using(crate::specs::Laws::ValuesLaws::less_next, crate::specs::Laws::AmountLaws::unit_ends, crate::specs::Laws::AmountLaws::unit_none, crate::specs::Laws::AmountLaws::unit_mark, crate::specs::Laws::AmountLaws::unit_other, crate::specs::Laws::AmountLaws::unit_more))]
 fn whole_at(s: &[u8], at: usize, v: Service) -> Whole
     ensures { part_of v s.now result ≡ whole_of (value_from v at s.now) }
 {
@@ -227,6 +236,7 @@ fn whole_at(s: &[u8], at: usize, v: Service) -> Whole
 }
 
 // The thousandths that up to three digits at `at` write.
+#[tactic(auto, using(crate::specs::Laws::AmountLaws::weigh_start, crate::specs::Laws::AmountLaws::weigh_mul, crate::specs::Laws::AmountLaws::weigh_add, crate::specs::Laws::AmountLaws::weigh_on, crate::specs::Laws::AmountLaws::frac_of, crate::specs::Laws::AmountLaws::frac_none, crate::specs::Laws::AmountLaws::frac_low, crate::specs::Laws::AmountLaws::frac_high, crate::specs::Laws::AmountLaws::frac_long, crate::specs::Laws::AmountLaws::frac_on, crate::specs::Laws::ValuesLaws::less_next))]
 fn fraction_at(s: &[u8], at: usize, v: Service) -> Amount
     ensures { result ≡ fraction 100 0 (value_from v at s.now) }
 {
@@ -262,6 +272,7 @@ fn fraction_at(s: &[u8], at: usize, v: Service) -> Amount
 }
 
 // The thousandths that the value at `at` writes: 1 to 12 digits with no leading zero, or none before a mark, and after a mark 1 to 3 digits.
+#[tactic(auto, using(crate::specs::Laws::AmountLaws::amount_none, crate::specs::Laws::AmountLaws::amount_ends, crate::specs::Laws::AmountLaws::marked_not, crate::specs::Laws::AmountLaws::marked_of, crate::specs::Laws::AmountLaws::ends_below, crate::specs::Laws::AmountLaws::marked_below, crate::specs::Laws::AmountLaws::fraction_below))]
 fn amount_at(s: &[u8], at: usize, v: Service) -> Amount
     ensures { result ≡ amount_of (value_from v at s.now) }
 {
@@ -280,6 +291,7 @@ fn amount_at(s: &[u8], at: usize, v: Service) -> Amount
 }
 
 // A capital, A to Z.
+#[tactic(auto, using(crate::specs::Laws::CodeLaws::capital_low, crate::specs::Laws::CodeLaws::capital_else))]
 fn is_capital(b: u64) -> bool
     ensures { result ≡ is_capital b }
 {
@@ -290,6 +302,7 @@ fn is_capital(b: u64) -> bool
 }
 
 // Whether a code is that of three capitals.
+#[tactic(auto, using(crate::specs::Laws::CodeLaws::capitals_other, crate::specs::Laws::CodeLaws::capitals_first, crate::specs::Laws::CodeLaws::capitals_second, crate::specs::Laws::CodeLaws::capitals_third))]
 pub fn is_capitals(code: u64) -> bool
     ensures { result ≡ is_capitals code }
 {
@@ -328,6 +341,7 @@ pub fn amount_in(s: &[u8], at: usize, v: Service, e: usize, c: usize) -> Amount
 }
 
 // Whether it is component `d` of element `f` of the segment that begins at `other`.
+#[tactic(auto, using(crate::specs::Laws::ValuesLaws::at_values))]
 pub fn same_in(
     s: &[u8],
     at: usize,
@@ -346,6 +360,7 @@ pub fn same_in(
 }
 
 // Whether it writes the number `n`.
+#[tactic(auto, using(crate::specs::Laws::ValuesLaws::number_is_of, crate::specs::Laws::ValuesLaws::number_is_not))]
 pub fn number_is(s: &[u8], at: usize, v: Service, e: usize, c: usize, n: u64) -> bool
     ensures { result ≡ is_number (number_of (value_in v at s.now e c)) n }
 {

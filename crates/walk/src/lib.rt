@@ -1,4 +1,6 @@
 // The next message of an interchange from any position, found and judged.
+#![tactic(auto)]
+
 ghost use Rattle.lent.specs.Lists.{lists};
 ghost use Rattle.walk.specs.Walks.{Walks, Judges};
 ghost use Rattle.walk.specs.Forms.Sought.{SeeksWith, Seeks};
@@ -24,6 +26,7 @@ enum Sought {
     Refused(Refusal),
 }
 
+#[tactic(auto, using(crate::specs::Laws::SeeksLaws::finds_past, crate::specs::Laws::SeeksLaws::finds_message, crate::specs::Laws::SeeksLaws::finds_nothing, crate::specs::Laws::SeeksLaws::finds_unfinished))]
 fn seek_with(s: &[u8], at: usize, v: Service) -> Sought
     ensures { SeeksWith v s.now at result }
 {
@@ -39,6 +42,7 @@ fn seek_with(s: &[u8], at: usize, v: Service) -> Sought
 }
 
 // Finds the next message from the position `at` on.
+#[tactic(auto, using(crate::specs::Laws::SeeksLaws::seek_long, crate::specs::Laws::SeeksLaws::seek_fit, crate::specs::Laws::SeeksLaws::seek_unfit))]
 fn seek(s: &[u8], at: usize) -> Sought
     ensures { Seeks s.now at result }
 {
@@ -53,6 +57,7 @@ fn seek(s: &[u8], at: usize) -> Sought
 }
 
 // Finds the next message from the position `at` on, and checks it.
+#[tactic(auto, using(crate::specs::Laws::SeeksLaws::part_order, crate::specs::Laws::SeeksLaws::part_within, crate::specs::Laws::WalksLaws::walk_message, crate::specs::Laws::WalksLaws::walk_nothing, crate::specs::Laws::WalksLaws::walk_refused))]
 pub fn walk(s: &[u8], at: usize, rows: &mut [u16], starts: &mut [u32], totals: &mut [u64]) -> Walked
     ensures { Walks s.now at (lists rows.old starts.old totals.old) (lists rows.new starts.new totals.new) result }
 {
@@ -68,6 +73,7 @@ pub fn walk(s: &[u8], at: usize, rows: &mut [u16], starts: &mut [u32], totals: &
 }
 
 // Finds the next message from the position `at` on, and judges it as if every list were long enough.
+#[tactic(auto, using(crate::specs::Laws::SeeksLaws::part_order, crate::specs::Laws::SeeksLaws::part_within, crate::specs::Laws::JudgesLaws::judge_message, crate::specs::Laws::JudgesLaws::judge_nothing, crate::specs::Laws::JudgesLaws::judge_refused))]
 pub fn judge(s: &[u8], at: usize) -> Walked
     ensures { Judges s.now at result }
 {

@@ -15,33 +15,33 @@ use Rattle.message.specs.Rules.{some, failing, rule20}
 use Rattle.message.specs.Advices.{LIN, DTM4, SEQ, RFF11, row_of, is, pre_advice, rule30, fault31_c, fault31, rule31}
 use Rattle.message.specs.Forms.Run.{run, first_of, test_step, Level, level_step, close}
 use Rattle.message.specs.Forms.Counts.{some_step}
-use Rattle.message.specs.Laws.FirstLaws.{none_lesser, first_unless, test_tells}
-use Rattle.message.specs.Laws.LevelLaws.{goes, goes_late, Tells, level_tells}
-use Rattle.message.specs.Laws.CountLaws.{some_came}
+use Rattle.message.proofs.Laws.FirstLaws.{none_lesser, first_unless, test_tells}
+use Rattle.message.proofs.Laws.LevelLaws.{goes, goes_late, Tells, level_tells}
+use Rattle.message.proofs.Laws.CountLaws.{some_came}
 use Rattle.numbering.specs.declared.Numbering.{Numbering}
-use Rattle.numbering.specs.Forms.Steps.{line_part as numberPart, line_step, numbering_start, numbering_step}
+use Rattle.numbering.specs.Forms.Steps.{line_part as number_part, line_step, numbering_start, numbering_step}
 use Rattle.numbering.specs.Laws.Agree as numbering
 use Rattle.advice.specs.declared.Dates.{Dates}
 use Rattle.advice.specs.declared.References.{References}
 use Rattle.advice.specs.Forms.Steps.{dates_of, dates_start, announces, date_is, date_step, first_date, line_of, sequence_comes, line_inner, line_tells, level31, references_of, line_part, references_start, reference_step, first_reference, line_number_step}
 
 -- ---- 20: LIN has the same row on both charts, and no other row changes its number or its first fault
-stepped_part : (st : Numbering) (s : Seg) → numberPart (numbering_step 0 st s) ≡ line_step (numberPart st) s
+stepped_part : (st : Numbering) (s : Seg) → number_part (numbering_step 0 st s) ≡ line_step (number_part st) s
 unfolding numbering_step
 stepped_part st s = refl
 
-other_part : (st : Numbering) (s : Seg) → is LIN s ≡ false → line_step (numberPart st) s ≡ numberPart st
+other_part : (st : Numbering) (s : Seg) → is LIN s ≡ false → line_step (number_part st) s ≡ number_part st
 unfolding line_step
 other_part st s e = rw e
 
-number_turn : (st u : Numbering) (s : Seg) (ss : List Seg) (b : Bool) → is LIN s ≡ b → numberPart st ≡ numberPart u
-    → ((x y : Numbering) → numberPart x ≡ numberPart y → (run line_number_step x ss).first20 ≡ (run (numbering_step 0) y ss).first20)
+number_turn : (st u : Numbering) (s : Seg) (ss : List Seg) (b : Bool) → is LIN s ≡ b → number_part st ≡ number_part u
+    → ((x y : Numbering) → number_part x ≡ number_part y → (run line_number_step x ss).first20 ≡ (run (numbering_step 0) y ss).first20)
     → (run line_number_step (line_number_step st s) ss).first20 ≡ (run (numbering_step 0) (numbering_step 0 u s) ss).first20
 unfolding line_number_step
 number_turn st u s ss true e q ih = rw e (ih (numbering_step 0 st s) (numbering_step 0 u s) (rw (stepped_part st s, stepped_part u s, q)))
 number_turn st u s ss false e q ih = rw e (ih st (numbering_step 0 u s) (rw (stepped_part u s, other_part u s e) q))
 
-number_run : (st u : Numbering) (ss : List Seg) → numberPart st ≡ numberPart u → (run line_number_step st ss).first20 ≡ (run (numbering_step 0) u ss).first20
+number_run : (st u : Numbering) (ss : List Seg) → number_part st ≡ number_part u → (run line_number_step st ss).first20 ≡ (run (numbering_step 0) u ss).first20
 unfolding run
 number_run st u [] q = ap (λ (x : ℕ × First). x.1) q
 number_run st u (s ∷ ss) q = number_turn st u s ss (is LIN s) refl q (λ x y p. number_run x y ss p)

@@ -17,10 +17,10 @@ use Rattle.message.specs.Segs.{Seg, Stretch, LIN, MOA5, CUX5, MOA11, is, those, 
 use Rattle.message.specs.Rules as rules
 use Rattle.message.specs.Rules.{worth, amount, failing, sum, fault23, fault24, fault25, fault26}
 use Rattle.message.specs.Forms.Run.{run, first_of, test_step, level_step, close}
-use Rattle.message.specs.Laws.FirstLaws.{none_lesser, lesser_swap, first_append, first_unless, test_tells}
-use Rattle.message.specs.Laws.LevelLaws.{goes, Tells, level_tells}
+use Rattle.message.proofs.Laws.FirstLaws.{none_lesser, lesser_swap, first_append, first_unless, test_tells}
+use Rattle.message.proofs.Laws.LevelLaws.{goes, Tells, level_tells}
 use Rattle.message.specs.Forms.Counts.{some_step, most}
-use Rattle.message.specs.Laws.CountLaws.{some_came}
+use Rattle.message.proofs.Laws.CountLaws.{some_came}
 use Rattle.amounts.specs.Forms.Steps.{Held, held, add_step, held_inner, Rule, rule23, rule24, rule25, rule26, ends, tells_by, comes_by, level_of, Sums, held_step, first_step, is_moa, is_formed, sums_step, ended_by}
 
 -- ---- the order at hand, part by part

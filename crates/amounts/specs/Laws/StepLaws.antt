@@ -17,7 +17,7 @@ use Rattle.message.specs.Segs.{seg_at}
 use Rattle.message.specs.Rules.{is_of, worth, capitals, first_holds, second_holds, is_base, bases_hold, cux_holds}
 use Rattle.message.specs.Forms.Run.{test_step}
 use Rattle.message.specs.Forms.Counts.{some_step, most}
-use Rattle.message.specs.Laws.ValueLaws.{empty_code}
+use Rattle.message.proofs.Laws.ValueLaws.{empty_code}
 use Rattle.amounts.specs.declared.Order.{Order}
 use Rattle.amounts.specs.declared.Amounts.{Amounts}
 use Rattle.amounts.specs.declared.Holds.{Holds}

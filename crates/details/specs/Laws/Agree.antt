@@ -10,10 +10,10 @@ use Rattle.faults.specs.declared.First.TheVariants as first
 use Rattle.message.specs.Segs.{Seg, LIN, SEQ, PRC10, PRC16, FTX16, DOC17, is, those}
 use Rattle.message.specs.Rules.{some, failing, details_hold, fault28_b, fault28_c, rule28}
 use Rattle.message.specs.Forms.Run.{run, first_of, test_step, level_step}
-use Rattle.message.specs.Laws.FirstLaws.{first_append, first_unless, test_tells}
-use Rattle.message.specs.Laws.LevelLaws.{goes_late, Tells, level_tells}
+use Rattle.message.proofs.Laws.FirstLaws.{first_append, first_unless, test_tells}
+use Rattle.message.proofs.Laws.LevelLaws.{goes_late, Tells, level_tells}
 use Rattle.message.specs.Forms.Counts.{some_step}
-use Rattle.message.specs.Laws.CountLaws.{some_came}
+use Rattle.message.proofs.Laws.CountLaws.{some_came}
 use Rattle.details.specs.declared.Details.{Details}
 use Rattle.details.specs.Forms.Steps.{common_of, group_of, common_inner, group_inner, common_comes, group_holds, group_comes, level28_b, level28_c, details_of, order_part, group_part, details_start, details_step, details_close}
 

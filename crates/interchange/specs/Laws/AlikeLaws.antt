@@ -11,9 +11,9 @@ use Rattle.service.specs.declared.Service.{Service}
 use Rattle.service.specs.Tests.{if, is_empty, last_of}
 use Rattle.segments.specs.SegmentList.{Piece, finished, unfinished, all_finished}
 use Rattle.parts.specs.Parts.{lex, elements}
-use Rattle.parts.specs.Laws.ValueLaws.{tag_value}
+use Rattle.parts.proofs.Laws.ValueLaws.{tag_value}
 use Rattle.parts.specs.Trimmed.{trimmed, values_at, values_in}
-use Rattle.parts.specs.Laws.TrimLaws.{same_at}
+use Rattle.parts.proofs.Laws.TrimLaws.{same_at}
 use Rattle.values.specs.Text.{same_list, says}
 use Rattle.values.specs.Numbers.{value_from, value_in}
 use Rattle.values.specs.Forms.Values.{number_of, is_number}

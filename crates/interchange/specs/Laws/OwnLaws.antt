@@ -18,7 +18,7 @@ use Rattle.segments.specs.Laws.ClosedLaws.{segments_moved}
 use Rattle.segments.specs.Laws.ClearLaws.{upto, Clear, passed, upto_start, from_start}
 use Rattle.segments.specs.Laws.ListLaws.{list_finished, list_unfinished, list_nothing, finished_first}
 use Rattle.parts.specs.Parts.{Tok, lex, value_of}
-use Rattle.parts.specs.Laws.PartLaws.{tokens_in_part}
+use Rattle.parts.proofs.Laws.PartLaws.{tokens_in_part}
 use Rattle.values.specs.Text.{text, same_list, says}
 use Rattle.interchange.specs.Messages.{tag_at, Kind, head, trailer, last, other, cut, kind_of, Extent, ends_at, is_closed, bytes_of, extent_by, extent_of, closed_at, ends_closed}
 use Rattle.interchange.specs.Laws.FindLaws.{extent_starts}

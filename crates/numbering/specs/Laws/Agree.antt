@@ -8,10 +8,10 @@ use Rattle.faults.specs.Laws.FirstsLaws.{lesser_last}
 use Rattle.message.specs.Segs.{Seg, LIN, SEQ, row_of, is, those}
 use Rattle.message.specs.Rules.{writes, unless, misnumbered, fault21, rule20, rule21, rule29}
 use Rattle.message.specs.Forms.Run.{run, first_of, test_step, level_step, close}
-use Rattle.message.specs.Laws.FirstLaws.{none_lesser, first_append, first_unless, first_more, test_tells}
-use Rattle.message.specs.Laws.LevelLaws.{goes, Tells, level_tells}
+use Rattle.message.proofs.Laws.FirstLaws.{none_lesser, first_append, first_unless, first_more, test_tells}
+use Rattle.message.proofs.Laws.LevelLaws.{goes, Tells, level_tells}
 use Rattle.message.specs.Forms.Counts.{most}
-use Rattle.message.specs.Laws.ValueLaws.{writes_capped}
+use Rattle.message.proofs.Laws.ValueLaws.{writes_capped}
 use Rattle.numbering.specs.declared.Numbering.{Numbering}
 use Rattle.numbering.specs.Forms.Steps.{line_step, count_seq, tell_seq, level21, is_control, control_is, numbering_of, line_part, sequence_part, numbering_start, numbering_step}
 

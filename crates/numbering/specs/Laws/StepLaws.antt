@@ -7,7 +7,6 @@ use Rattle.values.specs.Forms.Codes as codes
 use Rattle.service.specs.declared.Service.{Service}
 use Rattle.service.specs.Tests.{if}
 use Rattle.faults.specs.declared.First.{First}
-use Rattle.faults.specs.declared.First.TheVariants as first
 use Rattle.faults.specs.Firsts.{lesser, place_unless}
 use Rattle.faults.specs.Laws.FirstsLaws.{lesser_last}
 use Rattle.values.specs.Text.{text, says}

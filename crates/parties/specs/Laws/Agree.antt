@@ -2,14 +2,13 @@
 use Rattle.std.specs.Prelude.{ℕ, min, ◌≡◌, refl, List, [], ◌∷◌, Bool, true, false, ◌&&◌, ◌||◌}
 use Rattle.std.proofs.Common.{arith, sym, ◌∙◌}
 use Rattle.faults.specs.declared.First.{First}
-use Rattle.faults.specs.declared.First.TheVariants as first
 use Rattle.message.specs.Segs.{Seg, LIN, FII6, NAD7, SEQ, FII12, NAD13, is}
 use Rattle.message.specs.Rules.{named, party, order_holds, payment_holds, fault27_b, fault27_c, rule27}
 use Rattle.message.specs.Forms.Run.{run, first_of, level_step}
-use Rattle.message.specs.Laws.FirstLaws.{first_append, first_unless}
-use Rattle.message.specs.Laws.LevelLaws.{goes_late, Tells, level_tells}
+use Rattle.message.proofs.Laws.FirstLaws.{first_append, first_unless}
+use Rattle.message.proofs.Laws.LevelLaws.{goes_late, Tells, level_tells}
 use Rattle.message.specs.Forms.Counts.{cap_step, some_step}
-use Rattle.message.specs.Laws.CountLaws.{capped, some_came, cap_eq, cap_one}
+use Rattle.message.proofs.Laws.CountLaws.{capped, some_came, cap_eq, cap_one}
 use Rattle.parties.specs.declared.Parties.{Parties}
 use Rattle.parties.specs.Forms.Steps.{level_b, level_c, order_inner, payment_inner, order_comes, payment_comes, level27_b, level27_c, parties_of, order_part, payment_part, parties_start, parties_step, parties_close}
 

@@ -17,7 +17,7 @@ use Rattle.message.specs.Segs.{seg_at}
 use Rattle.message.specs.Rules.{order_holds, payment_holds}
 use Rattle.message.specs.Forms.Run.{level_step, close}
 use Rattle.message.specs.Forms.Counts.{more_if, cap_step, some_step}
-use Rattle.message.specs.Laws.ValueLaws.{empty_code}
+use Rattle.message.proofs.Laws.ValueLaws.{empty_code}
 use Rattle.parties.specs.declared.LevelB.{LevelB}
 use Rattle.parties.specs.declared.LevelC.{LevelC}
 use Rattle.parties.specs.declared.Parties.{Parties}

@@ -1,13 +1,18 @@
 -- The program's steps by these lines. Assumes nothing.
-use Rattle.std.specs.Prelude.{ℕ, ◌+◌, ◌≤◌, ◌≡◌, List, length, take}
-use Rattle.std.proofs.Common.{arith, sym, ◌∙◌, subst}
+use Rattle.std.specs.Prelude.{ℕ, ◌+◌, ◌≤◌, ◌≡◌, List, [], ◌++◌, length, take, None, Some, Ok, Err, OnOk}
+use Rattle.std.specs.Io.KnownBytes.{Appends}
+use Rattle.std.specs.declared.result.Result.{Result}
+use Rattle.std.specs.declared.option.Option.{Option}
+use Rattle.std.proofs.Common.{arith, sym, ap, ◌∙◌, subst, append_assoc, append-nil}
 use Rattle.service.specs.declared.Service.{Service}
 use Rattle.interchange.specs.declared.Refusal.{Refusal}
 use Rattle.interchange.specs.declared.Opening.{Opening}
 use Rattle.interchange.specs.declared.Opening.TheVariants as opening
 use Rattle.interchange.specs.Opened.{OpenedAs}
+use Rattle.interchange.specs.declared.Closing.{Closing}
+use Rattle.interchange.specs.Closed.{ClosedAs}
 use Rattle.lent.specs.Lists.{lists}
-use Rattle.lines.specs.Lines.{message_line, open_line, Lined}
+use Rattle.lines.specs.Lines.{message_line, end_line, open_line, Lined}
 use Rattle.lines.specs.Laws.LinesLaws.{held_is}
 use Rattle.report.specs.declared.Report.{Report}
 use Rattle.walk.specs.declared.Walked.{Walked}
@@ -15,7 +20,7 @@ use Rattle.walk.specs.declared.Walked.TheVariants as walked
 use Rattle.walk.specs.Frame.{message, step_from}
 use Rattle.walk.specs.Laws.PlaceLaws.{walk_count, walk_add}
 use Rattle.walk.specs.Walks.{Walks, walks_nothing, walks_refused}
-use Rattle.payreport.specs.Printed.{accepts, Opened, Judged, judged, Visited, start, next, AcceptedOf, LineOf, unopened, told}
+use Rattle.payreport.specs.Printed.{accepts, Opened, Judged, judged, Visited, start, next, AcceptedOf, LineOf, unopened, told, Told, told_none, told_more, Tells, ReportOf, unopened_alone, messages_end, Reported}
 
 -- ---- opening
 module _ (s : List ℕ) (o : Opening) (q : OpenedAs s o) (h : length s ≤ 32768) where
@@ -25,9 +30,42 @@ module _ (s : List ℕ) (o : Opening) (q : OpenedAs s o) (h : length s ≤ 32768
   pub unopened_line : (f : Refusal) → o ≡ opening.Refused f → LineOf s (open_line f.number)
   unopened_line f e = unopened f h (subst (OpenedAs s) e q)
 
+  pub unopened_report : (f : Refusal) → o ≡ opening.Refused f → ReportOf s (open_line f.number)
+  unopened_report f e = unopened_alone f h (subst (OpenedAs s) e q)
+
 -- ---- a line held in the room
 pub held_line : (s l o new : List ℕ) (k : ℕ) → Lined l o new k → length l ≤ 128 → 128 ≡ length o → LineOf s l → LineOf s (take k new)
 held_line s l o new k w h e p = subst (LineOf s) (sym (held_is l o new k w h e)) p
+
+-- and what a writer took of it
+pub held_written : {T E : Type 0} (r : Result T E) (u v : Option (List ℕ)) (l o new : List ℕ) (k : ℕ) → Lined l o new k → length l ≤ 128 → 128 ≡ length o
+    → OnOk r (Appends u v (take k new)) → OnOk r (Appends u v l)
+held_written r u v l o new k w h e p = subst (λ (x : List ℕ). OnOk r (Appends u v x)) (held_is l o new k w h e) p
+
+pub end_written : {T E : Type 0} (s : List ℕ) (k : ℕ) (r : Result T E) (u v : Option (List ℕ)) (c : Closing) → ClosedAs s c → OnOk r (Appends u v (end_line c.messages k c.strays c.number))
+    → OnOk r ((c : Closing) × ClosedAs s c × Appends u v (end_line c.messages k c.strays c.number))
+end_written s k (Ok x) u v c q p = (c, q, p)
+end_written s k (Err x) u v c q p = tt
+
+-- ---- lines one behind the other
+appends_none : (u : Option (List ℕ)) → Appends u u []
+appends_none None = tt
+appends_none (Some x) = sym (append-nil x)
+
+appends_then : (u v w : Option (List ℕ)) (a b : List ℕ) → Appends u v a → Appends v w b → Appends u w (a ++ b)
+appends_then None v w a b p q = tt
+appends_then (Some x) None w a b p q = absurd p
+appends_then (Some x) (Some y) None a b p q = absurd q
+appends_then (Some x) (Some y) (Some z) a b p q = q ∙ ap (λ (l : List ℕ). l ++ b) p ∙ append_assoc x a b
+
+-- a writer took the lines of the messages up to a position
+pub record Telling (s : List ℕ) (at n k : ℕ) (u v : Option (List ℕ)) : Type 0 where
+  pub lines : List ℕ
+  pub told : Told s at n k lines
+  pub written : Appends u v lines
+
+pub tell_first : (s : List ℕ) (u : Option (List ℕ)) → Telling s 0 0 0 u u
+tell_first s u = record { lines = []; told = told_none; written = appends_none u }
 
 -- ---- one message more
 -- the walk stands at a position, with these lists lent
@@ -62,14 +100,45 @@ module _ (s : List ℕ) (at n k : ℕ) (r y t : List ℕ) (x : Standing s at n k
       totals = h ∙ x.totals;
     }
 
-  pub none_left : w ≡ walked.Nothing → AcceptedOf s k
-  none_left q = record { at = at; messages = n; visited = x.visited; last = stays (subst (Walks s at (lists r y t) (lists r' y' t')) q p) }
+  left_none : w ≡ walked.Nothing → (a e : ℕ) → message a e ≡ step_from s at → ⊥
+  left_none q = stays (subst (Walks s at (lists r y t) (lists r' y' t')) q p)
     where
       stays : Walks s at (lists r y t) (lists r' y' t') walked.Nothing → (a e : ℕ) → message a e ≡ step_from s at → ⊥
       stays (walks_nothing u _) a e m = let z : ◌≡◌ {A = ℕ} 0 1 = cc in omega arith
 
-  pub none_more : (f : Refusal) → w ≡ walked.Refused f → AcceptedOf s k
-  none_more f q = record { at = at; messages = n; visited = x.visited; last = stays (subst (Walks s at (lists r y t) (lists r' y' t')) q p) }
+  left_more : (f : Refusal) → w ≡ walked.Refused f → (a e : ℕ) → message a e ≡ step_from s at → ⊥
+  left_more f q = stays (subst (Walks s at (lists r y t) (lists r' y' t')) q p)
     where
       stays : Walks s at (lists r y t) (lists r' y' t') (walked.Refused f) → (a e : ℕ) → message a e ≡ step_from s at → ⊥
       stays (walks_refused g u _) a e m = let z : ◌≡◌ {A = ℕ} 0 1 = cc in omega arith
+
+  pub none_left : w ≡ walked.Nothing → AcceptedOf s k
+  none_left q = record { at = at; messages = n; visited = x.visited; last = left_none q }
+
+  pub none_more : (f : Refusal) → w ≡ walked.Refused f → AcceptedOf s k
+  none_more f q = record { at = at; messages = n; visited = x.visited; last = left_more f q }
+
+  module _ (u v : Option (List ℕ)) (z : Telling s at n k u v) where
+    pub tell_next : (a e : ℕ) (m : Report) → w ≡ walked.Message a e m → (v' : Option (List ℕ)) → Appends v v' (message_line (n + 1) m) → (d : ℕ) → d ≡ accepts m → Telling s e (n + 1) (k + d) u v'
+    tell_next a e m q v' g d c = record {
+      lines = z.lines ++ message_line (n + 1) m;
+      told = subst (λ (i : ℕ). Told s e (n + 1) (k + i) (z.lines ++ message_line (n + 1) m)) (sym c) (told_more at n k e m z.lines z.told (found a e m q));
+      written = appends_then u v v' z.lines (message_line (n + 1) m) z.written g;
+    }
+
+    pub tell_left : w ≡ walked.Nothing → Tells s k u v
+    tell_left q = record { lines = z.lines; all = record { at = at; messages = n; visited = z.told; last = left_none q }; written = z.written }
+
+    pub tell_more : (f : Refusal) → w ≡ walked.Refused f → Tells s k u v
+    tell_more f q = record { lines = z.lines; all = record { at = at; messages = n; visited = z.told; last = left_more f q }; written = z.written }
+
+-- ---- the whole report
+module _ {E : Type 0} (s : List ℕ) (k : ℕ) (u v w : Option (List ℕ)) (o : Opened s) (z : Tells s k u v) where
+  pub reported_end : {T : Type 0} (r : Result T E) → OnOk r ((c : Closing) × ClosedAs s c × Appends v w (end_line c.messages k c.strays c.number)) → OnOk r (Reported s u w)
+  reported_end (Ok x) (c, q, p) = record { lines = z.lines ++ end_line c.messages k c.strays c.number; report = messages_end k z.lines c o z.all q; written = appends_then u v w z.lines (end_line c.messages k c.strays c.number) z.written p }
+  reported_end (Err x) p = tt
+
+module _ {T E : Type 0} (s l : List ℕ) (u v : Option (List ℕ)) (q : ReportOf s l) where
+  pub reported_alone : (r : Result T E) → OnOk r (Appends u v l) → OnOk r (Reported s u v)
+  reported_alone (Ok x) p = record { lines = l; report = q; written = p }
+  reported_alone (Err x) p = tt

@@ -8,7 +8,7 @@ use Rattle.service.specs.Service.{Fits}
 use Rattle.service.specs.Laws.FitLaws.{fits_fitting}
 use Rattle.segments.specs.SegmentList.{Piece, finished, start_of, segments_from, starts_from}
 use Rattle.parts.specs.Trimmed.{values_at}
-use Rattle.parts.specs.Laws.ByteLaws.{same_strange}
+use Rattle.parts.proofs.Laws.ByteLaws.{same_strange}
 use Rattle.values.specs.Forms.Values.{code_of}
 use Rattle.interchange.specs.Messages.{ends_closed}
 use Rattle.interchange.specs.Alike.{Alike, none, both}

@@ -9,7 +9,7 @@ use Rattle.segments.specs.declared.Segment.TheVariants.{Finished, Unfinished, No
 use Rattle.segments.specs.Forms.Segments.{segment_at}
 use Rattle.segments.specs.SegmentList.{Piece, segments_from, start_at}
 use Rattle.parts.specs.Parts.{lex, value_of}
-use Rattle.parts.specs.Laws.ValueLaws.{tag_value}
+use Rattle.parts.proofs.Laws.ValueLaws.{tag_value}
 use Rattle.values.specs.Numbers.{value_from, value_in}
 use Rattle.values.specs.Forms.Values.{code_from, code_of}
 use Rattle.values.specs.Forms.Codes as codes

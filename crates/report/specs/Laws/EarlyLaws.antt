@@ -10,7 +10,7 @@ use Rattle.kinds.specs.declared.Kind.{Kind}
 use Rattle.kinds.specs.declared.Kind.TheVariants.{Paymul, Debmul}
 use Rattle.message.specs.Kinds.{rules_for}
 use Rattle.message.specs.Faults.{rank, Told, told, tell, tell_all, least, least_of}
-use Rattle.message.specs.Laws.FaultLaws.{Rising, by_rules, by_rules_lem}
+use Rattle.message.proofs.Laws.FaultLaws.{Rising, by_rules, by_rules_lem}
 use Rattle.report.specs.Reported.{Bare, bare_of, Room, early, In, here, there, Applies, soon, misfit, late, Lowest}
 use Rattle.report.specs.Laws.LeastLaws.{NotAfter, nowhere, least_in, least_first_lem}
 

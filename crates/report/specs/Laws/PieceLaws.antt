@@ -8,7 +8,7 @@ use Rattle.service.specs.declared.Service.{Service}
 use Rattle.segments.specs.SegmentList.{Piece, start_of, segments_from, starts_from, start_at}
 use Rattle.segments.specs.Laws.StartsLaws.{starts_count}
 use Rattle.parts.specs.Parts.{lex}
-use Rattle.parts.specs.Laws.ValueLaws.{tag_value}
+use Rattle.parts.proofs.Laws.ValueLaws.{tag_value}
 use Rattle.values.specs.Numbers.{value_in}
 use Rattle.values.specs.Forms.Values.{code_from, code_of}
 use Rattle.tally.specs.Places.{passed}

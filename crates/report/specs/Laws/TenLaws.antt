@@ -14,7 +14,7 @@ use Rattle.segments.specs.SegmentList.{finished, unfinished, segments_from, star
 use Rattle.segments.specs.Laws.StartsLaws.{by_place}
 use Rattle.parts.specs.Parts.{is_strange, keep, strange_in}
 use Rattle.parts.specs.Written.{strange_places}
-use Rattle.parts.specs.Laws.ReleaseLaws.{strange_places_lem, strange_unfinished}
+use Rattle.parts.proofs.Laws.ReleaseLaws.{strange_places_lem, strange_unfinished}
 use Rattle.faults.specs.declared.First.{First}
 use Rattle.faults.specs.declared.First.TheVariants as first
 use Rattle.faults.specs.Firsts.{lesser}

@@ -10,9 +10,9 @@ use Rattle.segments.specs.SegmentList.{Piece, gap, pieces, all_finished, segment
 use Rattle.segments.specs.Laws.ListLaws.{finished_first}
 use Rattle.segments.specs.Laws.ResyncLaws.{gap_first}
 use Rattle.parts.specs.Parts.{lex, elements, value_at}
-use Rattle.parts.specs.Laws.ValueLaws.{tag_value}
+use Rattle.parts.proofs.Laws.ValueLaws.{tag_value}
 use Rattle.parts.specs.Trimmed.{Values, values_at, values_in, values_from}
-use Rattle.parts.specs.Laws.TrimLaws.{trimmed_value, values_trimmed}
+use Rattle.parts.proofs.Laws.TrimLaws.{trimmed_value, values_trimmed}
 use Rattle.values.specs.Text.{text}
 use Rattle.interchange.specs.declared.Opening.TheVariants.{Opens}
 use Rattle.interchange.specs.Envelope.{first_at}

@@ -14,7 +14,7 @@ use Rattle.segments.specs.SegmentList.{Piece, finished, gap, inside, pieces, seg
 use Rattle.segments.specs.Laws.ResyncLaws.{gap_start, unbroken, gap_first, gap_inside}
 use Rattle.parts.specs.Parts.{Tok, lex, elements}
 use Rattle.parts.specs.Written.{Writes, none, as_is, behind, component, element}
-use Rattle.parts.specs.Laws.ReleaseLaws.{writes_lex}
+use Rattle.parts.proofs.Laws.ReleaseLaws.{writes_lex}
 use Rattle.parts.specs.Trimmed.{Values, trimmed, values_in}
 use Rattle.rewrite.specs.Plain.{plain_elements, begun, plain_segment, plain}
 use Rattle.rewrite.specs.Laws.PrintLaws.{tokens_of, term_plain, writes_segment, tokens_values}

@@ -12,7 +12,7 @@ use Rattle.service.specs.Tests.{if}
 use Rattle.segments.specs.SegmentList.{Piece, segments_from}
 use Rattle.parts.specs.Parts.{value_at}
 use Rattle.parts.specs.Trimmed.{Values, trimmed, values_at, values_from}
-use Rattle.parts.specs.Laws.TrimLaws.{same_at, same_trimmed, values_trimmed}
+use Rattle.parts.proofs.Laws.TrimLaws.{same_at, same_trimmed, values_trimmed}
 use Rattle.values.specs.Exactly.{Exactly}
 use Rattle.interchange.specs.declared.Opening.{Opening}
 use Rattle.interchange.specs.declared.Opening.TheVariants.{Opens, Refused}

@@ -10,7 +10,7 @@ use Rattle.parts.specs.declared.Token.{Token}
 use Rattle.parts.specs.declared.Token.TheVariants as token
 use Rattle.parts.specs.Parts.{lex}
 use Rattle.parts.specs.Forms.Lex.{token_at}
-use Rattle.parts.specs.Laws.LexLaws.{reads_comp, reads_elem}
+use Rattle.parts.proofs.Laws.LexLaws.{reads_comp, reads_elem}
 use Rattle.parts.specs.Trimmed.{values_at, values_from}
 use Rattle.rewrite.specs.Plain.{plain_byte, plain_segment, plain}
 use Rattle.rewrite.specs.Forms.Flat.{flat, leads, lead}

@@ -19,9 +19,9 @@ use Rattle.message.specs.Segs.{Seg, seg_at, row_of, UNT}
 use Rattle.message.specs.Rules.{paymul_of}
 use Rattle.message.specs.Faults.{rank, tell_all, least_of}
 use Rattle.message.specs.Forms.Run.{run}
-use Rattle.message.specs.Laws.FaultLaws.{Rising, by_rules_lem}
-use Rattle.message.specs.Laws.PlacedLaws.{reference_first}
-use Rattle.message.specs.Laws.LoopLaws.{Runs, runs_first, runs_fits, runs_next, runs_end}
+use Rattle.message.proofs.Laws.FaultLaws.{Rising, by_rules_lem}
+use Rattle.message.proofs.Laws.PlacedLaws.{reference_first}
+use Rattle.message.proofs.Laws.LoopLaws.{Runs, runs_first, runs_fits, runs_next, runs_end}
 use Rattle.trailer.specs.declared.Trailer.{Trailer}
 use Rattle.trailer.specs.Forms.Steps.{trailer_start, trailer_step}
 use Rattle.trailer.specs.Laws.Agree.{agree17, agree18}

@@ -57,7 +57,10 @@ module _ (v : Service) (m : List ℕ) where
   numbered = by_place v m Numbered (λ i h q j l. absurd (let z = ap length (starts_past v m i h) in omega arith))
       (λ i h e q j l. rw q (let z = ap length (starts_unfinished v m i segment.Unfinished e refl) in omega arith)) (λ i t n e w q ih.
       let p = starts_finished v m i (segment.Finished t n) e t n refl in
-      λ j l. rw (q, p) (on i t n w.within (let a = w.from in let b = w.next in omega arith) ih j (let z = ap length p in omega arith)))
+      λ j l.
+      ap (λ (x : List ℕ). passed (length m) (get_or x j (length m)) (segments_from v m i)) p
+      ∙ ap (λ (y : List Piece). passed (length m) (get_or (i ∷ starts_from v m n) j (length m)) y) q
+      ∙ on i t n w.within (let a = w.from in let b = w.next in omega arith) ih j (let z = ap length p in omega arith))
     where
       on : (i t n : ℕ) → n ≤ length m → i < n → Numbered n → (j : ℕ) → j < suc (length (starts_from v m n)) → passed (length m) (get_or (i ∷ starts_from v m n) j (length m)) (finished i t ∷ segments_from v m n) ≡ j
       on i t n h g ih zero l = rw (starts v m n h, lt-ltb i n g)

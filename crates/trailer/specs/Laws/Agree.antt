@@ -5,7 +5,7 @@ use mathlib.Core.List.{List, [], ◌∷◌}
 use Rattle.message.specs.Segs.{Seg, on_row}
 use Rattle.message.specs.Rules.{reference, rule17, rule18}
 use Rattle.message.specs.Forms.Run.{run, first_of, test_step}
-use Rattle.message.specs.Laws.FirstLaws.{test_tells}
+use Rattle.message.proofs.Laws.FirstLaws.{test_tells}
 use Rattle.trailer.specs.declared.Trailer.{Trailer}
 use Rattle.trailer.specs.Forms.Steps.{trailer_of, trailer_start, count_is, reference_is, trailer_step}
 

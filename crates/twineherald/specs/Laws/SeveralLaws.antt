@@ -82,6 +82,9 @@ one_each b (at ∷ ps) (q ∷ a) (r ∷ c) (s ∷ d) (one_more_lem at1 ps1 q1 r1
     let x = one_answered b at r s k l in
     let y = one_each b ps a c d w u in
     rw (x, y)
+one_each b (at ∷ ps) [] c d x4 _ = elim x4 [ ]
+one_each b (at ∷ ps) (q ∷ a) [] d x7 _ = elim x7 [ ]
+one_each b (at ∷ ps) (q ∷ a) (r ∷ c) [] _ x11 = elim x11 [ ]
 
 pub one_steps : (b ps : List ℕ) (a c d : List (List ℕ)) (x y : ℕ) → SteppedEach b ps a c x → SteppedEach b ps a d y → (x ≡ y) × (c ≡ d)
 one_steps b ps a c d x y (given h e) (given g f) = (e ∙ sym f, one_each b ps a c d h g)

@@ -9,7 +9,7 @@ use Rattle.parts.specs.declared.Token.{Token}
 use Rattle.parts.specs.declared.Token.TheVariants as token
 use Rattle.parts.specs.Parts.{lex, value_of}
 use Rattle.parts.specs.Forms.Lex.{token_at}
-use Rattle.parts.specs.Laws.LexLaws.{Reads, token_reads}
+use Rattle.parts.proofs.Laws.LexLaws.{Reads, token_reads}
 use Rattle.values.specs.declared.Next.{Next}
 use Rattle.values.specs.declared.Next.TheVariants as next
 use Rattle.values.specs.declared.Number.{Number}

@@ -1,0 +1,12 @@
+use Rattle.values.specs.Text.{text}
+use Rattle.lines.specs.Laws.LinesLaws.{message_put, message_short}
+use Rattle.std.proofs.Common.{rules}
+use Rattle.lines.proofs.put_refused.Goals as goal
+
+pub returns-clause-puts : goal.returns-clause-puts
+unfolding text
+returns-clause-puts c = search (message_put, message_short, rules)
+
+pub returns-clause-f_len_bound : goal.returns-clause-f_len_bound
+unfolding text
+returns-clause-f_len_bound c = search (message_put, message_short, rules)
