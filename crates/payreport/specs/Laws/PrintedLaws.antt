@@ -126,9 +126,6 @@ module _ (s : List ℕ) (at n k : ℕ) (r y t : List ℕ) (x : Standing s at n k
       written = appends_then u v v' z.lines (message_line (n + 1) m) z.written g;
     }
 
-    pub tell_left : w ≡ walked.Nothing → Tells s k u v
-    tell_left q = record { lines = z.lines; all = record { at = at; messages = n; visited = z.told; last = left_none q }; written = z.written }
-
     pub tell_more : (f : Refusal) → w ≡ walked.Refused f → Tells s k u v
     tell_more f q = record { lines = z.lines; all = record { at = at; messages = n; visited = z.told; last = left_more f q }; written = z.written }
 
