@@ -1,7 +1,7 @@
 // Reads an interchange from standard input and reports on each of its messages.
 #![tactic(auto)]
 
-ghost use Rattle.std.specs.Prelude.{◌≤◌, ◌≡◌, length, take, IfOk, OnOk};
+ghost use Rattle.std.specs.Prelude.{◌≤◌, ◌≡◌, length, take, OnOk};
 ghost use Rattle.std.specs.Io.KnownBytes.{Appends, Consumes};
 ghost use Rattle.interchange.specs.declared.Closing.{Closing};
 ghost use Rattle.interchange.specs.Closed.{ClosedAs};
@@ -71,7 +71,7 @@ fn counted(told: Report) -> u64
     }
 }
 
-// A line for each message, and how many were accepted.
+// A line for each message: how many were accepted, and whether every line was written. After a line that was not, the next is tried.
 #[tactic(auto, using(crate::specs::Laws::PrintedLaws::stand_first, walk::specs::Laws::PlaceLaws::walk_less, walk::specs::Laws::PlaceLaws::walk_count_fits, walk::specs::Laws::PlaceLaws::walk_add_fits, crate::specs::Laws::PrintedLaws::told_line, crate::specs::Laws::PrintedLaws::none_left, crate::specs::Laws::PrintedLaws::none_more, crate::specs::Laws::PrintedLaws::told_next))]
 fn put_messages<W: Write>(
     out: &mut W,
@@ -79,31 +79,32 @@ fn put_messages<W: Write>(
     rows: &mut [u16],
     starts: &mut [u32],
     totals: &mut [u64],
-) -> io::Result<u64>
+) -> (u64, io::Result<()>)
     requires opened { Opened s.now }
     requires rows_len { length rows.old ≡ 2000 }
     requires starts_len { length starts.old ≡ 2000 }
     requires totals_len { length totals.old ≡ 400 }
-    ensures count { IfOk result (λ accepted. AcceptedOf s.now accepted) }
-    ensures lines { IfOk result (λ accepted. Tells s.now accepted (W.contents out.old) (W.contents out.new)) }
+    ensures count { AcceptedOf s.now result.0 }
+    ensures lines { OnOk result.1 (Tells s.now result.0 (W.contents out.old) (W.contents out.new)) }
 {
     let mut at: usize = 0;
     let mut place: u64 = 0;
     let mut accepted: u64 = 0;
+    let mut written = Ok(());
     loop {
         let w = walk::walk(s, at, rows, starts, totals);
         match w {
             Walked::Message(_, end, told) => {
                 place += 1;
-                put_message(out, s, place, told)?;
+                written = written.and(put_message(out, s, place, told));
                 accepted += counted(told);
                 at = end;
             }
             Walked::Nothing => {
-                return Ok(accepted);
+                return (accepted, written);
             }
             Walked::Refused(_) => {
-                return Ok(accepted);
+                return (accepted, written);
             }
         }
     }
@@ -121,14 +122,14 @@ fn report_on<W: Write>(out: &mut W, s: &[u8]) -> io::Result<()>
             let mut rows = [0u16; 2000];
             let mut starts = [0u32; 2000];
             let mut totals = [0u64; 400];
-            let accepted = put_messages(out, s, &mut rows, &mut starts, &mut totals)?;
-            put_end(out, s, accepted)
+            let (accepted, written) = put_messages(out, s, &mut rows, &mut starts, &mut totals);
+            written.and(put_end(out, s, accepted))
         }
         Opening::Refused(r) => put_open(out, s, r.number as u64),
     }
 }
 
-// The report on `s`: after an `Ok` every line was handed over, once and in order, and nothing else.
+// The report on `s`. On `Ok` the output has got every line, once and in order, and nothing else.
 fn put_report<W: Write>(out: &mut W, s: &[u8]) -> io::Result<()>
     ensures { OnOk result (Reported s.now (W.contents out.old) (W.contents out.new)) }
 {
@@ -154,8 +155,8 @@ fn read_full<R: Read>(input: &mut R, room: &mut [u8]) -> usize
     done
 }
 
-// Of standard input one byte more is read than a report may have, which tells that it is too long. Where a line cannot be
-// written, the report ends there.
+// Of standard input one byte more is read than a report may have, which tells that it is too long. That a line could not be
+// written is not told.
 fn main(rt: HostRuntime) {
     let mut buffer = [0u8; 32769];
     let n = read_full(&mut rt.reader(), &mut buffer);

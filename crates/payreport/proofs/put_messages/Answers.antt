@@ -1,6 +1,6 @@
 use Rattle.std.proofs.Common.{rules}
 use Rattle.walk.specs.Laws.PlaceLaws.{walk_count_fits, walk_add_fits}
-use Rattle.payreport.specs.Laws.PrintedLaws.{stand_first, told_line, told_next, tell_first, tell_next, tell_more}
+use Rattle.payreport.specs.Laws.PrintedLaws.{stand_first, told_line, told_next, tell_first, tell_next, tell_left, tell_more}
 use Rattle.payreport.proofs.put_messages.Goals as goal
 
 pub loop-end-init : goal.loop-end-init
@@ -16,10 +16,4 @@ pub overflow_add-accepted : goal.overflow_add-accepted
 overflow_add-accepted g c = search (walk_add_fits, rules)
 
 pub loop-end-preserved : goal.loop-end-preserved
-loop-end-preserved g c =
-    let kept = c.loop-end.invariant in
-    let told = tell_next _ _ _ _ _ _ _ kept.0 _ _ _ _ c.walk-w.ensures _ _ kept.1 _ _ _ c.in-Message.is _ c.in_ok-put_message-in-Message.ensures _ c.counted-accepted.ensures.value in
-    (search (told_next, rules), told, search rules, search rules, search rules)
-
-pub returns-in-Refused-clause-lines : goal.returns-in-Refused-clause-lines
-returns-in-Refused-clause-lines g c = search (tell_more, rules)
+loop-end-preserved g c = (search (told_next, rules), search (tell_next, rules), search rules, search rules, search rules)

@@ -1,5 +1,6 @@
 -- The program's steps by these lines. Assumes nothing.
 use Rattle.std.specs.Prelude.{ℕ, ◌+◌, ◌≤◌, ◌≡◌, List, [], ◌++◌, length, take, None, Some, Ok, Err, OnOk}
+use Rattle.std.specs.Result.{result_and}
 use Rattle.std.specs.Io.KnownBytes.{Appends}
 use Rattle.std.specs.declared.result.Result.{Result}
 use Rattle.std.specs.declared.option.Option.{Option}
@@ -118,22 +119,37 @@ module _ (s : List ℕ) (at n k : ℕ) (r y t : List ℕ) (x : Standing s at n k
   pub none_more : (f : Refusal) → w ≡ walked.Refused f → AcceptedOf s k
   none_more f q = record { at = at; messages = n; visited = x.visited; last = left_more f q }
 
-  module _ (u v : Option (List ℕ)) (z : Telling s at n k u v) where
-    pub tell_next : (a e : ℕ) (m : Report) → w ≡ walked.Message a e m → (v' : Option (List ℕ)) → Appends v v' (message_line (n + 1) m) → (d : ℕ) → d ≡ accepts m → Telling s e (n + 1) (k + d) u v'
-    tell_next a e m q v' g d c = record {
-      lines = z.lines ++ message_line (n + 1) m;
-      told = subst (λ (i : ℕ). Told s e (n + 1) (k + i) (z.lines ++ message_line (n + 1) m)) (sym c) (told_more at n k e m z.lines z.told (found a e m q));
-      written = appends_then u v v' z.lines (message_line (n + 1) m) z.written g;
-    }
+  -- the lines so far, if each was written, and one more, if it was
+  pub tell_next : {E : Type 0} (u v : Option (List ℕ)) (o : Result (Unit {0}) E) → OnOk o (Telling s at n k u v) → (a e : ℕ) (m : Report) → w ≡ walked.Message a e m → (v' : Option (List ℕ)) (r : Result (Unit {0}) E)
+      → OnOk r (Appends v v' (message_line (n + 1) m)) → (o' : Result (Unit {0}) E) → o' ≡ result_and o r → (d : ℕ) → d ≡ accepts m → OnOk o' (Telling s e (n + 1) (k + d) u v')
+  tell_next u v (Err f) z a e m q v' r g o' i d c = rw i tt
+  tell_next u v (Ok x) z a e m q v' (Err f) g o' i d c = rw i tt
+  tell_next u v (Ok x) z a e m q v' (Ok y) g o' i d c =
+      rw i
+      record {
+        lines = z.lines ++ message_line (n + 1) m;
+        told = subst (λ (j : ℕ). Told s e (n + 1) (k + j) (z.lines ++ message_line (n + 1) m)) (sym c) (told_more at n k e m z.lines z.told (found a e m q));
+        written = appends_then u v v' z.lines (message_line (n + 1) m) z.written g;
+      }
 
-    pub tell_more : (f : Refusal) → w ≡ walked.Refused f → Tells s k u v
-    tell_more f q = record { lines = z.lines; all = record { at = at; messages = n; visited = z.told; last = left_more f q }; written = z.written }
+  tell_all : {E : Type 0} (u v : Option (List ℕ)) (o : Result (Unit {0}) E) → OnOk o (Telling s at n k u v) → ((a e : ℕ) → message a e ≡ step_from s at → ⊥) → OnOk o (Tells s k u v)
+  tell_all u v (Err f) z h = tt
+  tell_all u v (Ok x) z h = record { lines = z.lines; all = record { at = at; messages = n; visited = z.told; last = h }; written = z.written }
+
+  pub tell_left : {E : Type 0} (u v : Option (List ℕ)) (o : Result (Unit {0}) E) → OnOk o (Telling s at n k u v) → w ≡ walked.Nothing → OnOk o (Tells s k u v)
+  tell_left u v o z q = tell_all u v o z (left_none q)
+
+  pub tell_more : {E : Type 0} (u v : Option (List ℕ)) (o : Result (Unit {0}) E) → OnOk o (Telling s at n k u v) → (f : Refusal) → w ≡ walked.Refused f → OnOk o (Tells s k u v)
+  tell_more u v o z f q = tell_all u v o z (left_more f q)
 
 -- ---- the whole report
-module _ {E : Type 0} (s : List ℕ) (k : ℕ) (u v w : Option (List ℕ)) (o : Opened s) (z : Tells s k u v) where
-  pub reported_end : {T : Type 0} (r : Result T E) → OnOk r ((c : Closing) × ClosedAs s c × Appends v w (end_line c.messages k c.strays c.number)) → OnOk r (Reported s u w)
-  reported_end (Ok x) (c, q, p) = record { lines = z.lines ++ end_line c.messages k c.strays c.number; report = messages_end k z.lines c o z.all q; written = appends_then u v w z.lines (end_line c.messages k c.strays c.number) z.written p }
-  reported_end (Err x) p = tt
+module _ {E : Type 0} (s : List ℕ) (k : ℕ) (u v w : Option (List ℕ)) (p : Opened s) where
+  pub reported_end : (o r o' : Result (Unit {0}) E) → OnOk o (Tells s k u v) → OnOk r ((c : Closing) × ClosedAs s c × Appends v w (end_line c.messages k c.strays c.number)) → o' ≡ result_and o r → OnOk o' (Reported s u w)
+  reported_end (Err f) r o' z g i = rw i tt
+  reported_end (Ok x) (Err f) o' z g i = rw i tt
+  reported_end (Ok x) (Ok y) o' z (c, q, g) i =
+      rw i
+      record { lines = z.lines ++ end_line c.messages k c.strays c.number; report = messages_end k z.lines c p z.all q; written = appends_then u v w z.lines (end_line c.messages k c.strays c.number) z.written g }
 
 module _ {T E : Type 0} (s l : List ℕ) (u v : Option (List ℕ)) (q : ReportOf s l) where
   pub reported_alone : (r : Result T E) → OnOk r (Appends u v l) → OnOk r (Reported s u v)
