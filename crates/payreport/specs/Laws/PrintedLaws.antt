@@ -132,15 +132,15 @@ module _ (s : List ℕ) (at n k : ℕ) (r y t : List ℕ) (x : Standing s at n k
         written = appends_then u v v' z.lines (message_line (n + 1) m) z.written g;
       }
 
-  tell_all : {E : Type 0} (u v : Option (List ℕ)) (o : Result (Unit {0}) E) → OnOk o (Telling s at n k u v) → ((a e : ℕ) → message a e ≡ step_from s at → ⊥) → OnOk o (Tells s k u v)
-  tell_all u v (Err f) z h = tt
-  tell_all u v (Ok x) z h = record { lines = z.lines; all = record { at = at; messages = n; visited = z.told; last = h }; written = z.written }
+  told_so : {E : Type 0} (u v : Option (List ℕ)) (o : Result (Unit {0}) E) → OnOk o (Telling s at n k u v) → ((a e : ℕ) → message a e ≡ step_from s at → ⊥) → OnOk o (Tells s k u v)
+  told_so u v (Err f) z h = tt
+  told_so u v (Ok x) z h = record { lines = z.lines; all = record { at = at; messages = n; visited = z.told; last = h }; written = z.written }
 
   pub tell_left : {E : Type 0} (u v : Option (List ℕ)) (o : Result (Unit {0}) E) → OnOk o (Telling s at n k u v) → w ≡ walked.Nothing → OnOk o (Tells s k u v)
-  tell_left u v o z q = tell_all u v o z (left_none q)
+  tell_left u v o z q = told_so u v o z (left_none q)
 
   pub tell_more : {E : Type 0} (u v : Option (List ℕ)) (o : Result (Unit {0}) E) → OnOk o (Telling s at n k u v) → (f : Refusal) → w ≡ walked.Refused f → OnOk o (Tells s k u v)
-  tell_more u v o z f q = tell_all u v o z (left_more f q)
+  tell_more u v o z f q = told_so u v o z (left_more f q)
 
 -- ---- the whole report
 module _ {E : Type 0} (s : List ℕ) (k : ℕ) (u v w : Option (List ℕ)) (p : Opened s) where
