@@ -129,7 +129,7 @@ fn report_on<W: Write>(out: &mut W, s: &[u8]) -> io::Result<()>
     }
 }
 
-// The report on `s`. On `Ok` the output has got every line, once and in order, and nothing else.
+// The report on `s`. On `Ok` an output whose contents are known has got every line, once and in order, and nothing else.
 fn put_report<W: Write>(out: &mut W, s: &[u8]) -> io::Result<()>
     ensures { OnOk result (Reported s.now (W.contents out.old) (W.contents out.new)) }
 {
