@@ -1,8 +1,8 @@
 // Reads an interchange from standard input and reports on each of its messages.
 #![tactic(auto)]
 
-ghost use Rattle.std.specs.Prelude.{◌≤◌, ◌≡◌, length, take, OnOk};
-ghost use Rattle.std.specs.Io.KnownBytes.{Appends, Consumes};
+ghost use Rattle.std.specs.Prelude.{◌≤◌, ◌<◌, ◌≡◌, length, take, OnOk, IfSome};
+ghost use Rattle.std.specs.Io.KnownBytes.{Appends, Consumes, IsAtEnd};
 ghost use Rattle.interchange.specs.declared.Closing.{Closing};
 ghost use Rattle.interchange.specs.Closed.{ClosedAs};
 ghost use Rattle.lines.specs.Lines.{message_line, end_line, open_line};
@@ -139,26 +139,34 @@ fn put_report<W: Write>(out: &mut W, s: &[u8]) -> io::Result<()>
     report_on(out, s)
 }
 
-// Reads until `room` is full, the input ends or a read fails, and gives how many bytes it put over the front of `room`.
-fn read_full<R: Read>(input: &mut R, room: &mut [u8]) -> usize
-    ensures within { result ≤ length room.new }
-    ensures taken { Consumes (R.remaining input.old) (R.remaining input.new) (take result room.new) }
+// Reads until `room` is full, the input ends or a read fails: how many bytes it put over the front of `room`, and whether no read failed.
+fn read_full<R: Read>(input: &mut R, room: &mut [u8]) -> (usize, io::Result<()>)
+    ensures within { result.0 ≤ length room.new }
+    ensures taken { Consumes (R.remaining input.old) (R.remaining input.new) (take result.0 room.new) }
+    ensures whole { OnOk result.1 (result.0 < length room.new → IsAtEnd (R.remaining input.new)) }
 {
     let mut done: usize = 0;
     while done < room.len() {
         match input.read(&mut room[done..]) {
-            Ok(0) => break,
+            Ok(0) => return (done, Ok(())),
             Ok(n) => done += n,
-            Err(_) => break,
+            Err(e) => return (done, Err(e)),
         }
     }
-    done
+    (done, Ok(()))
 }
 
-// Of standard input one byte more is read than a report may have, which tells that it is too long. That a line could not be
-// written is not told.
-fn main(rt: HostRuntime) {
+// The report on an input. One byte more of it is read than a report may have, which tells that it is too long; a read that fails ends
+// it. On `Ok` no read failed, and an output whose contents are known has got the report on all that a known input held.
+fn report_input<R: Read, W: Write>(input: &mut R, out: &mut W) -> io::Result<()>
+    ensures { OnOk result (IfSome (R.remaining input.old) (λ s. Reported s (W.contents out.old) (W.contents out.new))) }
+{
     let mut buffer = [0u8; 32769];
-    let n = read_full(&mut rt.reader(), &mut buffer);
-    let _ = put_report(&mut io::writer(&rt), &buffer[..n]);
+    let (n, read) = read_full(input, &mut buffer);
+    read.and(put_report(out, &buffer[..n]))
+}
+
+// That the input could not be read or a line not be written is not told.
+fn main(rt: HostRuntime) {
+    let _ = report_input(&mut rt.reader(), &mut io::writer(&rt));
 }

@@ -1,6 +1,6 @@
 use Rattle.std.proofs.Common.{rules}
 use Rattle.walk.specs.Laws.PlaceLaws.{walk_count_fits, walk_add_fits}
-use Rattle.payreport.specs.Laws.PrintedLaws.{stand_first, told_line, told_next, tell_first, tell_next, tell_left, tell_more}
+use Rattle.payreport.specs.Laws.PrintedLaws.{stand_first, told_line, told_next, tell_first, tell_next}
 use Rattle.payreport.proofs.put_messages.Goals as goal
 
 pub loop-end-init : goal.loop-end-init

@@ -1,10 +1,11 @@
 -- The program's steps by these lines. Assumes nothing.
-use Rattle.std.specs.Prelude.{ℕ, ◌+◌, ◌≤◌, ◌≡◌, List, [], ◌++◌, length, take, None, Some, Ok, Err, OnOk}
+use Rattle.std.specs.Prelude.{ℕ, ◌+◌, ◌≤◌, ◌<◌, ◌≡◌, List, [], ◌++◌, length, take, None, Some, Ok, Err, OnOk, IfSome}
 use Rattle.std.specs.Result.{result_and}
-use Rattle.std.specs.Io.KnownBytes.{Appends}
+use Rattle.std.specs.Io.KnownBytes.{Appends, Consumes, IsAtEnd}
 use Rattle.std.specs.declared.result.Result.{Result}
 use Rattle.std.specs.declared.option.Option.{Option}
-use Rattle.std.proofs.Common.{arith, sym, ap, ◌∙◌, subst, append_assoc, append-nil}
+use Rattle.std.proofs.Math.Decide.{dec_lt}
+use Rattle.std.proofs.Common.{arith, sym, ap, ◌∙◌, subst, append_assoc, append-nil, length-append, length-take-le}
 use Rattle.service.specs.declared.Service.{Service}
 use Rattle.interchange.specs.declared.Refusal.{Refusal}
 use Rattle.interchange.specs.declared.Opening.{Opening}
@@ -21,7 +22,7 @@ use Rattle.walk.specs.declared.Walked.TheVariants as walked
 use Rattle.walk.specs.Frame.{message, step_from}
 use Rattle.walk.specs.Laws.PlaceLaws.{walk_count, walk_add}
 use Rattle.walk.specs.Walks.{Walks, walks_nothing, walks_refused}
-use Rattle.payreport.specs.Printed.{accepts, Opened, Judged, judged, Visited, start, next, AcceptedOf, LineOf, unopened, told, Told, told_none, told_more, Tells, ReportOf, unopened_alone, messages_end, Reported}
+use Rattle.payreport.specs.Printed.{accepts, Opened, Judged, judged, Visited, start, next, AcceptedOf, LineOf, unopened, told, Told, told_none, told_more, Tells, ReportOf, unopened_alone, long_alone, messages_end, Reported}
 
 -- ---- opening
 module _ (s : List ℕ) (o : Opening) (q : OpenedAs s o) (h : length s ≤ 32768) where
@@ -101,23 +102,17 @@ module _ (s : List ℕ) (at n k : ℕ) (r y t : List ℕ) (x : Standing s at n k
       totals = h ∙ x.totals;
     }
 
-  left_none : w ≡ walked.Nothing → (a e : ℕ) → message a e ≡ step_from s at → ⊥
-  left_none q = stays (subst (Walks s at (lists r y t) (lists r' y' t')) q p)
+  pub none_left : w ≡ walked.Nothing → AcceptedOf s k
+  none_left q = record { at = at; messages = n; visited = x.visited; last = stays (subst (Walks s at (lists r y t) (lists r' y' t')) q p) }
     where
       stays : Walks s at (lists r y t) (lists r' y' t') walked.Nothing → (a e : ℕ) → message a e ≡ step_from s at → ⊥
       stays (walks_nothing u _) a e m = let z : ◌≡◌ {A = ℕ} 0 1 = cc in omega arith
 
-  left_more : (f : Refusal) → w ≡ walked.Refused f → (a e : ℕ) → message a e ≡ step_from s at → ⊥
-  left_more f q = stays (subst (Walks s at (lists r y t) (lists r' y' t')) q p)
+  pub none_more : (f : Refusal) → w ≡ walked.Refused f → AcceptedOf s k
+  none_more f q = record { at = at; messages = n; visited = x.visited; last = stays (subst (Walks s at (lists r y t) (lists r' y' t')) q p) }
     where
       stays : Walks s at (lists r y t) (lists r' y' t') (walked.Refused f) → (a e : ℕ) → message a e ≡ step_from s at → ⊥
       stays (walks_refused g u _) a e m = let z : ◌≡◌ {A = ℕ} 0 1 = cc in omega arith
-
-  pub none_left : w ≡ walked.Nothing → AcceptedOf s k
-  none_left q = record { at = at; messages = n; visited = x.visited; last = left_none q }
-
-  pub none_more : (f : Refusal) → w ≡ walked.Refused f → AcceptedOf s k
-  none_more f q = record { at = at; messages = n; visited = x.visited; last = left_more f q }
 
   -- the lines so far, if each was written, and one more, if it was
   pub tell_next : {E : Type 0} (u v : Option (List ℕ)) (o : Result (Unit {0}) E) → OnOk o (Telling s at n k u v) → (a e : ℕ) (m : Report) → w ≡ walked.Message a e m → (v' : Option (List ℕ)) (r : Result (Unit {0}) E)
@@ -132,16 +127,6 @@ module _ (s : List ℕ) (at n k : ℕ) (r y t : List ℕ) (x : Standing s at n k
         written = appends_then u v v' z.lines (message_line (n + 1) m) z.written g;
       }
 
-  told_so : {E : Type 0} (u v : Option (List ℕ)) (o : Result (Unit {0}) E) → OnOk o (Telling s at n k u v) → ((a e : ℕ) → message a e ≡ step_from s at → ⊥) → OnOk o (Tells s k u v)
-  told_so u v (Err f) z h = tt
-  told_so u v (Ok x) z h = record { lines = z.lines; all = record { at = at; messages = n; visited = z.told; last = h }; written = z.written }
-
-  pub tell_left : {E : Type 0} (u v : Option (List ℕ)) (o : Result (Unit {0}) E) → OnOk o (Telling s at n k u v) → w ≡ walked.Nothing → OnOk o (Tells s k u v)
-  tell_left u v o z q = told_so u v o z (left_none q)
-
-  pub tell_more : {E : Type 0} (u v : Option (List ℕ)) (o : Result (Unit {0}) E) → OnOk o (Telling s at n k u v) → (f : Refusal) → w ≡ walked.Refused f → OnOk o (Tells s k u v)
-  tell_more u v o z f q = told_so u v o z (left_more f q)
-
 -- ---- the whole report
 module _ {E : Type 0} (s : List ℕ) (k : ℕ) (u v w : Option (List ℕ)) (p : Opened s) where
   pub reported_end : (o r o' : Result (Unit {0}) E) → OnOk o (Tells s k u v) → OnOk r ((c : Closing) × ClosedAs s c × Appends v w (end_line c.messages k c.strays c.number)) → o' ≡ result_and o r → OnOk o' (Reported s u w)
@@ -155,3 +140,28 @@ module _ {T E : Type 0} (s l : List ℕ) (u v : Option (List ℕ)) (q : ReportOf
   pub reported_alone : (r : Result T E) → OnOk r (Appends u v l) → OnOk r (Reported s u v)
   reported_alone (Ok x) p = record { lines = l; report = q; written = p }
   reported_alone (Err x) p = tt
+
+-- ---- the report on what was read
+-- of a long input the first 32,769 bytes are enough
+first_enough : (s xs l : List ℕ) → 32768 < length s → 32768 < length xs → ReportOf s l → ReportOf xs l
+first_enough s xs l h g (long_alone _) = long_alone g
+first_enough s xs l h g (unopened_alone f short _) = absurd (omega arith)
+first_enough s xs l h g (messages_end k b c o _ _) = let short = o.short in absurd (omega arith)
+
+report_whole : (s ys xs l : List ℕ) → length s ≤ 32769 → xs ≡ s ++ ys → (length s < 32769 → ys ≡ []) → ReportOf s l → ReportOf xs l
+report_whole s ys xs l h e whole r = go (dec_lt (length s) 32769)
+  where
+    go : Dec (length s < 32769) → ReportOf xs l
+    go (yes w) = subst (λ (x : List ℕ). ReportOf x l) (sym (e ∙ ap (λ (y : List ℕ). s ++ y) (whole w) ∙ append-nil s)) r
+    go (no w) = let n = ap length e in let m = length-append s ys in first_enough s xs l (omega arith) (omega arith) r
+
+pub report_read : {E : Type 0} (o r o' : Result (Unit {0}) E) (n : ℕ) (room : List ℕ) (i j u v : Option (List ℕ)) → length room ≡ 32769 → n ≤ length room → Consumes i j (take n room)
+    → OnOk o (n < length room → IsAtEnd j) → OnOk r (Reported (take n room) u v) → o' ≡ result_and o r → OnOk o' (IfSome i (λ s. Reported s u v))
+report_read (Err f) r o' n room i j u v k h p whole z e = rw e tt
+report_read (Ok x) (Err f) o' n room i j u v k h p whole z e = rw e tt
+report_read (Ok x) (Ok y) o' n room None j u v k h p whole z e = rw e tt
+report_read (Ok x) (Ok y) o' n room (Some xs) None u v k h p whole z e = absurd p
+report_read (Ok x) (Ok y) o' n room (Some xs) (Some ys) u v k h p whole z e =
+    let m = length-take-le n room h in
+    rw e
+    record { lines = z.lines; report = report_whole (take n room) ys xs z.lines (omega arith) p (λ w. whole (omega arith)) z.report; written = z.written }
