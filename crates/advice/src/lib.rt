@@ -1,273 +1,208 @@
-// What must hold of a placed debit advice: one loop over its segments and their rows, and the rule of the lowest number that is broken: 17, 18, 20, 30 and 31.
+// What must hold of a placed debit advice: the rules of its own, 30 and 31, and the rule of the lowest number that is broken.
 #![tactic(auto)]
 
-ghost use Rattle.std.specs.Prelude.{◌≡◌};
-ghost use Rattle.service.specs.Tests.{alike};
-ghost use Rattle.values.specs.Numbers.{value_in};
+ghost use Rattle.std.specs.Prelude.{◌≡◌, [], ◌∷◌};
 ghost use Rattle.message.specs.Segs.{seg_at};
-ghost use Rattle.message.specs.Advices.{debmul_of};
+ghost use Rattle.message.specs.Advices.{debmul_of, rule30, rule31};
+ghost use Rattle.message.specs.Forms.Run.{run};
+ghost use Rattle.faults.specs.Firsts.{told_of};
 ghost use Rattle.message.specs.Faults.{tell_all, least_of};
 ghost use Rattle.message.specs.Placed.{placed_on};
-ghost use Rattle.advice.specs.Forms.Steps.{dates_start, date_step, first_date, titled_by, dated_by, references_start, reference_step, last_fault, first_reference, lined_by, sequenced_by, referred_by, least_first};
+ghost use Rattle.rule.specs.Runs.{none_passed, one_passed};
+ghost use Rattle.advice.specs.Forms.Steps.{dates_start, date_by, date_step, first_date, references_start, reference_step, line_comes, first_reference};
 
-use faults::{Fault, First};
-use numbering::Numbering;
-use service::Service;
-use table::COLUMNS;
+use faults::Fault;
+use numbering::LineNumbers;
+use numbers::Number;
+use rule::{Counts, Place, Rule};
+use segments::Text;
+use table::Row;
 use trailer::Trailer;
 use values::codes;
 
 // The dates of the lines so far: whether BGM tells that the debit is to come, the first that does not hold then, and the first that does not hold otherwise.
-#[derive(Clone, Copy)]
+#[derive(Clone, Copy, Debug, PartialEq, Eq)]
 struct Dates {
     pre: bool,
-    coming: First,
-    booked: First,
+    coming: Option<usize>,
+    booked: Option<usize>,
 }
 
-// The references of the transactions so far: whether a LIN was seen, whether it is booked with details, its last SEQ, whether that has a reference, and the first fault.
-#[derive(Clone, Copy)]
-struct References {
-    under: bool,
-    detailed: bool,
-    seq: First,
-    referenced: bool,
-    first31: First,
-}
-
-fn no_dates() -> Dates
-    ensures { result ≡ dates_start }
-{
-    Dates {
-        pre: false,
-        coming: First::None,
-        booked: First::None,
-    }
-}
-
-fn no_references() -> References
-    ensures { result ≡ references_start }
-{
-    References {
-        under: false,
-        detailed: false,
-        seq: First::None,
-        referenced: false,
-        first31: First::None,
-    }
-}
-
-// A BGM: 342 tells that the debit is to come.
-#[tactic(auto, using(crate::specs::Laws::StepLaws::titled_by_lem))]
-fn titled(st: Dates, m: &[u8], v: Service, at: usize) -> Dates
-    ensures { result ≡ titled_by st (value_in v at m.now) }
-{
-    let code = values::code_in(m, at, v, 1, 0);
-    let pre = truth::either(code == codes::THREE_HUNDRED_FORTY_TWO, st.pre);
-    let coming = st.coming;
-    let booked = st.booked;
-    Dates {
-        pre,
-        coming,
-        booked,
-    }
-}
-
-// A DTM of a LIN: 202 or 209, or 455 if the debit is to come.
-#[tactic(auto, using(crate::specs::Laws::StepLaws::dated_by_lem))]
-fn dated(st: Dates, m: &[u8], v: Service, at: usize, nth: usize) -> Dates
-    ensures { result ≡ dated_by st (value_in v at m.now) nth }
-{
-    let code = values::code_in(m, at, v, 1, 0);
-    let done = truth::either(
-        code == codes::TWO_HUNDRED_TWO,
-        code == codes::TWO_HUNDRED_NINE,
-    );
-    let any = truth::either(done, code == codes::FOUR_HUNDRED_FIFTY_FIVE);
-    let f = st.coming;
-    let g = st.booked;
-    let coming = faults::keep(f, any, nth);
-    let booked = faults::keep(g, done, nth);
-    Dates {
-        pre: st.pre,
-        coming,
-        booked,
-    }
-}
-
-// One segment, the nth, as its dates see it.
-#[tactic(auto, using(crate::specs::Laws::StepLaws::date_title, crate::specs::Laws::StepLaws::date_line, crate::specs::Laws::StepLaws::date_other))]
-fn date_step(st: Dates, m: &[u8], v: Service, at: usize, nth: usize, row: usize) -> Dates
-    ensures { result ≡ date_step st (seg_at v m.now nth row at) }
-{
-    if row == debmul::BGM {
-        return titled(st, m, v, at);
-    }
-    if row == debmul::LINE_DTM {
-        return dated(st, m, v, at, nth);
-    }
-    st
-}
-
-// The first date that does not hold.
-fn first_date(st: Dates) -> First
-    ensures { result ≡ first_date st }
-{
-    if st.pre {
-        return st.coming;
-    }
-    st.booked
-}
-
-// Whether a reference stands exactly if the line is booked with details.
-fn reference_holds(referenced: bool, detailed: bool) -> bool
-    ensures { result ≡ alike referenced detailed }
-{
-    if referenced {
-        return detailed;
-    }
-    truth::isnt(detailed)
-}
-
-// What the last SEQ comes to: its place, if its reference does not hold.
-#[tactic(auto, using(crate::specs::Laws::StepLaws::fault_at))]
-fn last_fault(st: References) -> First
-    ensures { result ≡ last_fault st }
-{
-    let seq = st.seq;
-    match seq {
-        First::None => First::None,
-        First::At(nth) => faults::unless(reference_holds(st.referenced, st.detailed), nth),
-    }
-}
-
-// The first fault, the last SEQ's among them.
-#[tactic(auto, using(crate::specs::Laws::StepLaws::reference_by))]
-fn first_reference(st: References) -> First
-    ensures { result ≡ first_reference st }
-{
-    let f = st.first31;
-    faults::earlier(f, last_fault(st))
-}
-
-// A LIN: its second element tells whether it is booked with details.
-#[tactic(auto, using(crate::specs::Laws::StepLaws::lined_by_lem))]
-fn lined(st: References, m: &[u8], v: Service, at: usize) -> References
-    ensures { result ≡ lined_by st (value_in v at m.now) }
-{
-    let code = values::code_in(m, at, v, 2, 0);
-    let first31 = first_reference(st);
-    References {
-        under: true,
-        detailed: code != codes::HUNDRED_SIX,
-        seq: First::None,
-        referenced: false,
-        first31,
-    }
-}
-
-// A SEQ, the nth segment: another transaction, if a LIN was seen. What the SEQ before it comes to is told.
-#[tactic(auto, using(crate::specs::Laws::StepLaws::sequenced_by_lem))]
-fn sequenced(st: References, nth: usize) -> References
-    ensures { result ≡ sequenced_by st nth }
-{
-    let first31 = first_reference(st);
-    let seq = faults::unless(truth::isnt(st.under), nth);
-    References {
-        under: st.under,
-        detailed: st.detailed,
-        seq,
-        referenced: false,
-        first31,
-    }
-}
-
-// An RFF of SG11.
-fn referred(st: References) -> References
-    ensures { result ≡ referred_by st }
-{
-    let seq = st.seq;
-    let first31 = st.first31;
-    References {
-        under: st.under,
-        detailed: st.detailed,
-        seq,
-        referenced: true,
-        first31,
-    }
-}
-
-// One segment, the nth, as references see it.
-#[tactic(auto, using(crate::specs::Laws::StepLaws::reference_lin, crate::specs::Laws::StepLaws::reference_seq, crate::specs::Laws::StepLaws::reference_rff, crate::specs::Laws::StepLaws::reference_other))]
-fn reference_step(
-    st: References,
-    m: &[u8],
-    v: Service,
-    at: usize,
+// A SEQ, the nth segment, and whether it has a reference.
+#[derive(Clone, Copy, Debug, PartialEq, Eq)]
+struct Sequence {
     nth: usize,
-    row: usize,
-) -> References
-    ensures { result ≡ reference_step st (seg_at v m.now nth row at) }
-{
-    if row == debmul::LIN {
-        return lined(st, m, v, at);
-    }
-    if row == debmul::SEQ {
-        return sequenced(st, nth);
-    }
-    if row == debmul::SEQUENCE_RFF {
-        return referred(st);
-    }
-    st
+    referenced: bool,
 }
 
-// The rule of the lowest number that has a first place.
-#[tactic(auto, using(crate::specs::Laws::StepLaws::least_by))]
-fn least(t: Trailer, n: Numbering, f30: First, f31: First) -> Fault
-    ensures { result ≡ least_first t n f30 f31 }
-{
-    let f17 = t.first17;
-    let f18 = t.first18;
-    let f20 = n.first20;
-    let g31 = faults::before(31, f31, Fault::None);
-    let g30 = faults::before(30, f30, g31);
-    let g20 = faults::before(20, f20, g30);
-    let g18 = faults::before(18, f18, g20);
-    faults::before(17, f17, g18)
+// A LIN: whether it is booked with details, and its last SEQ.
+#[derive(Clone, Copy, Debug, PartialEq, Eq)]
+struct Line {
+    detailed: bool,
+    sequence: Option<Sequence>,
 }
+
+// The references of the transactions so far: the last LIN, and the first fault.
+#[derive(Clone, Copy, Debug, PartialEq, Eq)]
+struct References {
+    line: Option<Line>,
+    first31: Option<usize>,
+}
+
+// Whether a DTM with this code may stand: 202 or 209, or 455 if the debit is to come.
+#[tactic(auto, unfolding(crate::specs::Forms::Steps::date_by))]
+fn date_holds(pre: bool, code: u64) -> bool
+    ensures { result ≡ date_by pre code }
+{
+    code == codes::TWO_HUNDRED_TWO
+        || code == codes::TWO_HUNDRED_NINE
+        || (pre && code == codes::FOUR_HUNDRED_FIFTY_FIVE)
+}
+
+impl Dates {
+    // The first date that does not hold.
+    fn first(self) -> Option<usize>
+        ensures { result ≡ first_date self }
+    {
+        if self.pre {
+            return self.coming;
+        }
+        self.booked
+    }
+}
+
+#[tactic(auto, using(crate::specs::Laws::Agree::agree30, crate::specs::Laws::StepLaws::date_title, crate::specs::Laws::StepLaws::date_line, crate::specs::Laws::StepLaws::date_other), unfolding(rule::specs::Refusals::by_rules))]
+impl Rule for Dates {
+    ghost rules = { λ k ss. (30, rule30 ss) ∷ [] };
+
+    ghost first = { dates_start };
+
+    ghost Step = { λ v m k p a b. b ≡ date_step a (seg_at v m p.nth p.row p.at) };
+
+    ghost After = { λ v m k ss st. st ≡ run date_step dates_start ss };
+
+    fn start() -> Self {
+        Dates {
+            pre: false,
+            coming: None,
+            booked: None,
+        }
+    }
+
+    // In a BGM 342 tells that the debit is to come.
+    fn step(&mut self, text: Text<'_>, counts: Counts, place: Place) {
+        match place.row {
+            debmul::BGM => {
+                let code = values::code_in(text, place.at, 1, 0);
+                self.pre |= code == codes::THREE_HUNDRED_FORTY_TWO;
+            }
+            debmul::LINE_DTM => {
+                let code = values::code_in(text, place.at, 1, 0);
+                self.coming = faults::keep(self.coming, date_holds(true, code), place.nth);
+                self.booked = faults::keep(self.booked, date_holds(false, code), place.nth);
+            }
+            _ => {}
+        }
+    }
+
+    fn refusal(&self, text: Text<'_>, other: Option<Fault>) -> Option<Fault> {
+        faults::before(Number::Dates, self.first(), other)
+    }
+
+    ghost begun = { λ v m k. none_passed date_step dates_start };
+
+    ghost gone_on = { λ v m k p ss a b h s. one_passed date_step dates_start ss (seg_at v m p.nth p.row p.at) a b h s };
+}
+
+// What the last SEQ of a line comes to: its place, unless its reference stands exactly if the line is booked with details.
+#[tactic(auto, using(crate::specs::Laws::StepLaws::line_none, crate::specs::Laws::StepLaws::sequence_none, crate::specs::Laws::StepLaws::sequence_some))]
+fn line_fault(line: Option<Line>) -> Option<usize>
+    ensures { result ≡ line_comes line }
+{
+    let line = line?;
+    let sequence = line.sequence?;
+    faults::unless(sequence.referenced == line.detailed, sequence.nth)
+}
+
+impl References {
+    // The first fault, the last SEQ's among them.
+    fn first(self) -> Option<usize>
+        ensures { result ≡ first_reference self }
+    {
+        faults::earlier(self.first31, line_fault(self.line))
+    }
+}
+
+#[tactic(auto, using(crate::specs::Laws::Agree::agree31, crate::specs::Laws::StepLaws::reference_lin, crate::specs::Laws::StepLaws::reference_seq, crate::specs::Laws::StepLaws::reference_seq_none, crate::specs::Laws::StepLaws::reference_rff, crate::specs::Laws::StepLaws::reference_rff_line, crate::specs::Laws::StepLaws::reference_rff_none, crate::specs::Laws::StepLaws::reference_other), unfolding(rule::specs::Refusals::by_rules))]
+impl Rule for References {
+    ghost rules = { λ k ss. (31, rule31 ss) ∷ [] };
+
+    ghost first = { references_start };
+
+    ghost Step = { λ v m k p a b. b ≡ reference_step a (seg_at v m p.nth p.row p.at) };
+
+    ghost After = { λ v m k ss st. st ≡ run reference_step references_start ss };
+
+    fn start() -> Self {
+        References {
+            line: None,
+            first31: None,
+        }
+    }
+
+    // The second element of a LIN tells whether it is booked with details. A SEQ under it is another transaction: what the one before it comes to is told.
+    fn step(&mut self, text: Text<'_>, counts: Counts, place: Place) {
+        match place.row {
+            debmul::LIN => {
+                let code = values::code_in(text, place.at, 2, 0);
+                self.first31 = self.first();
+                self.line = Some(Line {
+                    detailed: code != codes::HUNDRED_SIX,
+                    sequence: None,
+                });
+            }
+            debmul::SEQ => {
+                self.first31 = self.first();
+                if let Some(line) = &mut self.line {
+                    line.sequence = Some(Sequence {
+                        nth: place.nth,
+                        referenced: false,
+                    });
+                }
+            }
+            debmul::SEQUENCE_RFF => {
+                if let Some(line) = &mut self.line {
+                    if let Some(sequence) = &mut line.sequence {
+                        sequence.referenced = true;
+                    }
+                }
+            }
+            _ => {}
+        }
+    }
+
+    fn refusal(&self, text: Text<'_>, other: Option<Fault>) -> Option<Fault> {
+        faults::before(Number::References, self.first(), other)
+    }
+
+    ghost begun = { λ v m k. none_passed reference_step references_start };
+
+    ghost gone_on = { λ v m k p ss a b h s. one_passed reference_step references_start ss (seg_at v m p.nth p.row p.at) a b h s };
+}
+
+// In the order of their numbers: 17 and 18, 20, 30, 31.
+type Rules = (
+    Trailer<{ debmul::UNT }>,
+    (LineNumbers<{ debmul::LIN }>, (Dates, References)),
+);
 
 // The rule of the lowest number that is broken, and the first segment under it, in an advice of so many segments on a table.
-#[tactic(auto, using(crate::specs::Laws::StepLaws::advising_first, crate::specs::Laws::StepLaws::advising_fits, crate::specs::Laws::StepLaws::advising_end, crate::specs::Laws::StepLaws::judged, chart::specs::Laws::CursorLaws::onward_less))]
-pub fn judge(m: &[u8], v: Service, t: &[[u8; COLUMNS]], segments: u64) -> Fault
-    ensures { result ≡ least_of (tell_all (debmul_of segments (placed_on t.now v m.now))) }
+pub fn judge(text: Text<'_>, t: &[Row], segments: u64) -> Option<Fault>
+    ensures { told_of result ≡ least_of (tell_all (debmul_of segments (placed_on t.now text.entry.service text.entry.bytes.now))) }
 {
-    let mut trailer = trailer::start();
-    let mut numbering = numbering::start();
-    let mut dates = no_dates();
-    let mut references = no_references();
-    let mut row: usize = 0;
-    let mut nth: usize = 0;
-    let mut c = chart::cursor_at(m, 0, v);
-    let mut at = c.at;
-    while at < m.len() {
-        let next = nth + 1;
-        row = chart::next_row(t, row, c.tag);
-        if row == debmul::UNT {
-            trailer = trailer::step(trailer, m, v, at, next, segments);
-        }
-        if row == debmul::LIN {
-            numbering = numbering::step(numbering, m, v, at, next, row, 0);
-        }
-        dates = date_step(dates, m, v, at, next, row);
-        references = reference_step(references, m, v, at, next, row);
-        c = chart::step(m, v, c);
-        at = c.at;
-        nth = next;
-    }
-    least(
-        trailer,
-        numbering,
-        first_date(dates),
-        first_reference(references),
-    )
+    let counts = Counts {
+        segments,
+        orders: 0,
+    };
+    rule::judge::<Rules>(text, t, counts)
 }

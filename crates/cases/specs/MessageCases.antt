@@ -10,7 +10,7 @@ use Rattle.message.specs.Kinds.{chart_for}
 use Rattle.values.specs.Text.{text}
 use Rattle.lent.specs.Lists.{Lists}
 use Rattle.lent.specs.Over.{over}
-use Rattle.report.specs.declared.Report.{Report}
+use Rattle.report.specs.Answers.{Report}
 use Rattle.report.specs.Reported.{Room, room_of, Of, Applies, Lowest, Reported}
 
 -- lists that are long enough

@@ -4,8 +4,7 @@ use mathlib.Core.List.{List, [], ◌∷◌, ◌++◌}
 use Prim.Native.Nat.{ℕ}
 use native.Mathlib.Omega.{arith}
 use Rattle.service.specs.declared.Service.{Service}
-use Rattle.chart.specs.declared.Placed.{Placed}
-use Rattle.chart.specs.declared.Placed.TheVariants.{Whole, Stuck}
+use Rattle.std.specs.Prelude.{Result, Ok, Err, ⊤}
 use Rattle.chart.specs.Chart.{Placement, Unplaced, FirstMisfit}
 use Rattle.chart.specs.Table.{Table, chart_of}
 use Rattle.values.specs.Forms.Codes.{UNT}
@@ -34,21 +33,21 @@ module _ (t : Table) (v : Service) (m : List ℕ) where
   abbrev Fits : Type 0
   Fits = (ns : List ℕ) × Placement (chart_of t) (tags_of v m) ns
 
-  whole_not_stuck : (p : ℕ) → Whole ≡ Stuck p → ⊥
-  whole_not_stuck p e = let z : ◌≡◌ {A = ℕ} 0 1 = cc in omega arith
+  err_not_ok : (p : ℕ) → ◌≡◌ {A = Result ⊤ ℕ} (Err p) (Ok tt) → ⊥
+  err_not_ok p e = let z : ◌≡◌ {A = ℕ} 0 1 = cc in omega arith
 
-  pub whole_fits : (x : Placed) → Answers t v m x → x ≡ Whole → Fits
-  whole_fits Whole a e = (rows_of t (tags_of v m), a.placement)
-  whole_fits (Stuck p) a e = absurd (whole_not_stuck p (sym e))
+  pub whole_fits : (x : Result ⊤ ℕ) → Answers t v m x → x ≡ Ok tt → Fits
+  whole_fits (Ok u) a e = (rows_of t (tags_of v m), a.placement)
+  whole_fits (Err p) a e = absurd (err_not_ok p e)
 
-  pub fits_whole : (x : Placed) → Answers t v m x → Fits → x ≡ Whole
-  fits_whole Whole a f = refl
-  fits_whole (Stuck p) a f = absurd (a.fails.unplaced f.0 f.1)
+  pub fits_whole : (x : Result ⊤ ℕ) → Answers t v m x → Fits → x ≡ Ok tt
+  fits_whole (Ok u) a f = refl
+  fits_whole (Err p) a f = absurd (a.fails.unplaced f.0 f.1)
 
   -- ---- no second answer
-  pub one_answer : (x y : Placed) → Answers t v m x → Answers t v m y → x ≡ y
-  one_answer Whole Whole a b = refl
-  one_answer Whole (Stuck q) a b = absurd (b.fails.unplaced (rows_of t (tags_of v m)) a.placement)
-  one_answer (Stuck p) Whole a b = absurd (a.fails.unplaced (rows_of t (tags_of v m)) b.placement)
-  one_answer (Stuck p) (Stuck q) a b =
-      ap Stuck (a.start ∙ ap (start_at v m) (one_fault (chart_of t) (tags_of v m) a.j b.j a.fails b.fails) ∙ sym b.start)
+  pub one_answer : (x y : Result ⊤ ℕ) → Answers t v m x → Answers t v m y → x ≡ y
+  one_answer (Ok u) (Ok w) a b = refl
+  one_answer (Ok u) (Err q) a b = absurd (b.fails.unplaced (rows_of t (tags_of v m)) a.placement)
+  one_answer (Err p) (Ok u) a b = absurd (a.fails.unplaced (rows_of t (tags_of v m)) b.placement)
+  one_answer (Err p) (Err q) a b =
+      ap Err (a.start ∙ ap (start_at v m) (one_fault (chart_of t) (tags_of v m) a.j b.j a.fails b.fails) ∙ sym b.start)

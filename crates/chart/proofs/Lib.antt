@@ -1,7 +1,6 @@
 pub mod Answers
 pub mod Cases
 pub mod Guide
-pub mod Lines
 pub mod Nest
 pub mod Plain
 pub mod Stream

@@ -1,4 +1,4 @@
--- The rows of a message one by one: the loop that finds the row after a row, and what a loop over the segments knows. Assumes nothing.
+-- The rows of a message one by one: the loop that finds the row after a row, and the rows that are left at a segment. Assumes nothing.
 use mathlib.Core.Path.{◌≡◌, refl, sym, ap, ◌∙◌}
 use mathlib.Core.Bool.{Bool, true, false}
 use mathlib.Core.List.{List, [], ◌∷◌}
@@ -9,19 +9,18 @@ use lib.ListN.{length, get_or}
 use Rattle.service.specs.declared.Service.{Service}
 use Rattle.service.specs.Tests.{if}
 use borrow.Author.Tests.{ltb-true, lt-ltb, le-ltb, eq-eqb, ne_eqb}
-use Rattle.chart.specs.Forms.Machine.{rows_by, row_after}
+use Rattle.chart.specs.Forms.Machine.{rows_by}
 use Rattle.chart.specs.Forms.Columns.{tag_of, end_of, first_of}
 use Rattle.chart.specs.Table.{Table, chart_of}
 use Rattle.chart.specs.Forms.Sound.{Sound}
-use Rattle.chart.specs.Forms.Next.{next_of, chain_from, find_in, next_row, rows_of}
+use Rattle.chart.specs.Forms.Next.{next_of, chain_from, find_in, next_row}
 use Rattle.chart.specs.declared.Cursor.{Cursor}
 use Rattle.chart.specs.Chart.{Placement}
-use Rattle.chart.specs.Tags.{tags_from, tags_of}
-use Rattle.segments.specs.SegmentList.{starts_of}
-use Rattle.chart.specs.Laws.TagsLaws.{tags_past, same_count}
-use Rattle.chart.specs.Forms.Cursor.{CursorIs, Stepped, Tagged, Stands}
-use Rattle.chart.specs.Laws.CursorLaws.{passes, stands_first, stands_next, stands_lt, stands_tag, stands_at, stands_all}
-use Rattle.chart.proofs.Guide.{rows_first, rows_next, rows_after}
+use Rattle.chart.specs.Tags.{tags_from}
+use Rattle.chart.specs.Laws.TagsLaws.{tags_past}
+use Rattle.chart.specs.Forms.Cursor.{Stepped, Tagged}
+use Rattle.chart.specs.Laws.CursorLaws.{passes}
+use Rattle.chart.proofs.Guide.{rows_first, rows_next}
 use Rattle.chart.proofs.Whole.{placed_rows}
 
 pick_bound : (b : Bool) {x y n : ℕ} → x ≤ n → y ≤ n → if b x y ≤ n
@@ -94,7 +93,7 @@ next_first t sd ts ns h lt = rw (placed_rows t sd ts ns h) (rows_first (next_row
 pub next_placed : (t : Table) → Sound t → (ts ns : List ℕ) → Placement (chart_of t) ts ns → (k : ℕ) → suc k < length ts → get_or ns (suc k) 0 ≡ next_row t (get_or ns k 0) (get_or ts (suc k) 0)
 next_placed t sd ts ns h k lt = rw (placed_rows t sd ts ns h) (rows_next (next_row t) 0 ts k lt)
 
--- ---- A LOOP OVER THE SEGMENTS that finds each row from the one before it: with the list of what is left
+-- ---- THE ROWS THAT ARE LEFT at a segment, each found from the one before it
 pub left_rows : (t : Table) (v : Service) (m : List ℕ) (c r : Cursor) → Stepped v m c r → c.at < length m → Tagged v m c
     → (prev x : ℕ) → x ≡ next_row t prev c.tag → rows_by (next_row t) prev (tags_from v m c.at) ≡ x ∷ rows_by (next_row t) x (tags_from v m r.at)
 unfolding rows_by
@@ -103,42 +102,3 @@ left_rows t v m c r s h e prev x f = rw ((passes v m c r s h).tags, ← e.tag, �
 pub left_none : (t : Table) (v : Service) (m : List ℕ) (c : Cursor) → length m ≤ c.at → (prev : ℕ) → rows_by (next_row t) prev (tags_from v m c.at) ≡ []
 unfolding rows_by
 left_none t v m c h prev = rw (tags_past v m c.at h)
-
--- .. and with the number of those passed: the cursor stands at segment i, and prev is the row of the one before it (0 before the first)
-pub record Streams (t : Table) (v : Service) (m : List ℕ) (i prev : ℕ) (c : Cursor) : Type 0 where
-  pub stands : Stands v m i c
-  pub before : prev ≡ row_after (next_row t) 0 (tags_of v m) i
-
-pub stream_first : (t : Table) (v : Service) (m : List ℕ) (c : Cursor) → CursorIs v m 0 c → Streams t v m 0 0 c
-unfolding row_after
-stream_first t v m c h = record { stands = stands_first v m c h; before = refl }
-
-module _ (t : Table) (v : Service) (m : List ℕ) (i prev : ℕ) (c : Cursor) (s : Streams t v m i prev c) where
-  module _ (h : c.at < length m) where
-    pub stream_lt : i < length (tags_of v m)
-    stream_lt = stands_lt v m i c s.stands h
-
-    module _ (x : ℕ) (e : x ≡ next_row t prev c.tag) where
-      stream_after : x ≡ row_after (next_row t) 0 (tags_of v m) (suc i)
-      unfolding row_after
-      stream_after = e ∙ rw (s.before, stands_tag v m i c s.stands h)
-
-      -- the row of the segment
-      pub stream_row : x ≡ get_or (rows_of t (tags_of v m)) i 0
-      stream_row = stream_after ∙ rows_after (next_row t) 0 (tags_of v m) i stream_lt
-
-      pub stream_next : (r : Cursor) → Stepped v m c r → Streams t v m (i + 1) x r
-      stream_next r st = record { stands = stands_next v m i c s.stands r st h; before = stream_after ∙ ap (row_after (next_row t) 0 (tags_of v m)) (omega arith) }
-
-    -- where the segment begins
-    pub stream_start : c.at ≡ get_or (starts_of v m) i 0
-    stream_start = let l : i < length (starts_of v m) = let z = same_count v m 0 in let w = stream_lt in omega arith in stands_at v m i c s.stands ∙ other_default (starts_of v m) i l
-      where
-        other_default : (l : List ℕ) (k : ℕ) → k < length l → get_or l k (length m) ≡ get_or l k 0
-        other_default [] k lt = elim lt [ ]
-        other_default (y ∷ l) zero lt = refl
-        other_default (y ∷ l) (suc k) lt = other_default l k (omega arith)
-
-  -- all segments have been passed
-  pub stream_end : length m ≤ c.at → i ≡ length (tags_of v m)
-  stream_end h = stands_all v m i c s.stands h

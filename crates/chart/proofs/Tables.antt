@@ -2,6 +2,7 @@
 use mathlib.Core.Path.{◌≡◌, sym, subst}
 use mathlib.Core.List.{List}
 use Prim.Native.Nat.{ℕ}
+use Rattle.std.specs.Prelude.{Result}
 use Rattle.service.specs.declared.Service.{Service}
 use Rattle.kinds.specs.declared.Kind.{Kind}
 use Rattle.kinds.specs.declared.Kind.TheVariants.{Paymul, Debmul}
@@ -34,26 +35,8 @@ sound Paymul = paymul_sound
 sound Debmul = debmul_sound
 
 -- .. also where the code has them
-module _ (t : Table) where
-  pub paymul_at : t ≡ PAYMUL → Sound t
-  paymul_at e = subst Sound (sym e) paymul_sound
+pub sound_as : (k : Kind) (t : Table) → t ≡ table_of k → Sound t
+sound_as k t e = subst Sound (sym e) (sound k)
 
-  pub debmul_at : t ≡ DEBMUL → Sound t
-  debmul_at e = subst Sound (sym e) debmul_sound
-
-module _ (v : Service) (m : List ℕ) (c : Cursor) (w : Cursor) where
-  -- all rows of a table have been gone through
-  abbrev All : Table → Type 0
-  All t = RowsDone t v m 0 (length t) c w
-
-  pub paymul_done : (t : Table) → t ≡ PAYMUL → All t → All PAYMUL
-  paymul_done t e h = subst All e h
-
-  pub debmul_done : (t : Table) → t ≡ DEBMUL → All t → All DEBMUL
-  debmul_done t e h = subst All e h
-
-  pub order_done : (k : Kind) → k ≡ Paymul → All PAYMUL → All (table_of k)
-  order_done k e h = subst (λ (i : Kind). All (table_of i)) (sym e) h
-
-  pub advice_done : (k : Kind) → k ≡ Debmul → All DEBMUL → All (table_of k)
-  advice_done k e h = subst (λ (i : Kind). All (table_of i)) (sym e) h
+pub done_as : (v : Service) (m : List ℕ) (c : Cursor) (w : Result Cursor ℕ) (k : Kind) (t : Table) → t ≡ table_of k → RowsDone t v m 0 (length t) c w → RowsDone (table_of k) v m 0 (length (table_of k)) c w
+done_as v m c w k t e h = subst (λ (u : Table). RowsDone u v m 0 (length u) c w) e h

@@ -7,6 +7,7 @@ use native.Mathlib.Decide.{dec_lt}
 use native.Mathlib.Omega.{arith}
 use native.Mathlib.Numerals.{add-one}
 use lib.Dec.{ltb, eqb}
+use Rattle.std.specs.Prelude.{Result, Ok, Err}
 use lib.ListN.{length, get_or, drop, drop_of_length-le}
 use lib.Seq.{drop-cons}
 use borrow.Author.Tests.{ltb-true, ltb-false, lt-ltb, le-ltb, eq-eqb, ne_eqb, eqb-true}
@@ -21,11 +22,11 @@ use Rattle.chart.specs.Table.{Table}
 use Rattle.chart.specs.Forms.Sound.{Sound}
 use Rattle.chart.specs.Forms.Columns.{tag_of, end_of, req_of, most_of, first_of, row_at, Is, RowIs, Some}
 use Rattle.chart.specs.Tags.{tags_of}
-use Rattle.chart.specs.Forms.Cursor.{Stepped, Stands, halted}
+use Rattle.chart.specs.Forms.Cursor.{Stepped, Stands}
 use Rattle.chart.specs.Laws.CursorLaws.{stands_next, stands_lt, stands_ge, stands_tag, stands_none, stands_at}
-use Rattle.chart.specs.Forms.Placing.{takes_at, Taken, Untaken, TurnIs, RowsStop, RowsDone, rows_passed, rows_stopped, OnceDone, once_passed, once_stopped}
+use Rattle.chart.specs.Forms.Placing.{takes_at, Taken, Untaken, TurnIs, RowsDone, OncePass, OnceStop, OnceDone}
 use Rattle.chart.proofs.Theory.{step_place, step_owe, step_pass, run_at, run_fail, run_short, free_owe, free_pass, and_left, and_right, T_true, true_T}
-use Rattle.chart.proofs.Nest.{and_false, owed_zero, owed_some, Head, head, ended, chart_is, Own, own, tag_some, tag_runs, first_segment}
+use Rattle.chart.proofs.Nest.{and_false, owed_zero, owed_some, Head, head, ended, chart_is, Own, own, tag_some, first_segment}
 
 -- ---- whether a row takes a segment
 module _ (a tag n most : ℕ) where
@@ -160,21 +161,21 @@ module _ (t : Table) (v : Service) (m : List ℕ) (r : ℕ) (from : Cursor) (e :
     once_next i s = stands_next v m i from s c st (once_left i s)
 
     -- then the rows inside it
-    pub once_done : (d : Cursor) → RowsDone t v m (first_of t r + 1) (end_of t r) c d → OnceDone t v m r from d
-    once_done d (rows_passed p) = once_passed (record {
+    pub once_done : (d : Result Cursor ℕ) → RowsDone t v m (first_of t r + 1) (end_of t r) c d → OnceDone t v m r from d
+    once_done (Ok d) p = record {
       pass = λ i s.
           let y = p.pass (i + 1) (once_next i s) in
           (y.0, y.1, λ n lt kids rest is K. once_have i s n lt kids rest K ∙ y.2 kids is (frame (n + 1) (row_at t r kids rest) K));
-    })
-    once_done d (rows_stopped q p) = once_stopped q (record {
+    }
+    once_done (Err q) p = record {
       stop = λ i s.
           let y = p.stop (i + 1) (once_next i s) in
           (y.0, y.1, λ n lt kids rest is K. once_have i s n lt kids rest K ∙ y.2 kids is (frame (n + 1) (row_at t r kids rest) K));
-    })
+    }
 
     -- .. if there are any
-    once_leaf : ltb (r + 1) (end_of t r) ≡ false → OnceDone t v m r from c
-    once_leaf leaf = once_passed (record {
+    once_leaf : ltb (r + 1) (end_of t r) ≡ false → OncePass t v m r from c
+    once_leaf leaf = record {
       pass = λ i s. (
         i + 1,
         once_next i s,
@@ -184,7 +185,7 @@ module _ (t : Table) (v : Service) (m : List ℕ) (r : ℕ) (from : Cursor) (e :
             ∙ ap (λ (l : Rows). run (drop (i + 1) (tags_of v m)) (frame zero l L) (i + 1)) (ended is (let f = first_segment t r leaf in let le = ltb-false (r + 1) (end_of t r) leaf in omega arith))
             ∙ run_none (drop (i + 1) (tags_of v m)) 0 L (i + 1),
       );
-    })
+    }
 
 -- ---- THE LOOP OVER ROWS SIDE BY SIDE
 -- at j the rows from r on are left, of the first of which n have been had
@@ -193,9 +194,8 @@ RowsSoFar t lo hi r n ts i j =
     (rows : Rows) → Is t lo hi rows
     → (left : Rows) × Is t r hi left × ((K : Frames) → run (drop i ts) (frame zero rows K) i ≡ run (drop j ts) (frame n left K) j)
 
-pub data RowsAt (t : Table) (v : Service) (m : List ℕ) (lo hi : ℕ) (from : Cursor) (r n : ℕ) (c : Cursor) : Type 0 where
-  going : ((i : ℕ) → Stands v m i from → (j : ℕ) × Stands v m j c × RowsSoFar t lo hi r n (tags_of v m) i j) → RowsAt t v m lo hi from r n c
-  stopped : c.tag ≡ 2 → RowsStop t v m lo hi from c.at → RowsAt t v m lo hi from r n c
+pub record RowsAt (t : Table) (v : Service) (m : List ℕ) (lo hi : ℕ) (from : Cursor) (r n : ℕ) (c : Cursor) : Type 0 where
+  pub going : (i : ℕ) → Stands v m i from → (j : ℕ) × Stands v m j c × RowsSoFar t lo hi r n (tags_of v m) i j
 
 -- the turns that the loop may still take: how often the row at hand may come is a number of 64 bits
 abbrev pub turns : ℕ → ℕ → ℕ → ℕ
@@ -216,7 +216,7 @@ rows_start t v m g f e from x ef ee = rw (ef, ee) (record {
   some_left = record { rows = x.kids; are = x.below };
   above = omega arith;
   fits = omega arith;
-  so_far = going (λ i s. (i, s, λ rows is. (rows, is, λ K. refl)));
+  so_far = record { going = λ i s. (i, s, λ rows is. (rows, is, λ K. refl)) };
 })
 
 module _ (t : Table) (v : Service) (m : List ℕ) (g hi : ℕ) (from : Cursor) (r n : ℕ) (c : Cursor) (inv : RowsInv t v m g hi from r n c) where
@@ -224,25 +224,21 @@ module _ (t : Table) (v : Service) (m : List ℕ) (g hi : ℕ) (from : Cursor) (
   lo = first_of t g + 1
 
   -- what is done of the rows up to hi is done of those inside the row g
-  inside : (d : Cursor) → RowsDone t v m lo hi from d → RowsDone t v m lo (end_of t g) from d
+  inside : (d : Result Cursor ℕ) → RowsDone t v m lo hi from d → RowsDone t v m lo (end_of t g) from d
   inside d x = subst (λ (z : ℕ). RowsDone t v m lo z from d) inv.end x
 
-  pub rows_done : hi ≤ r → RowsDone t v m (first_of t g + 1) (end_of t g) from c
-  rows_done h = inside c (go inv.so_far)
-    where
-      go : RowsAt t v m lo hi from r n c → RowsDone t v m lo hi from c
-      go (stopped e p) = rows_stopped e p
-      go (going f) = rows_passed (record {
-        pass = λ i s.
-            let x = f i s in
-            let k = x.0 in (
-              k,
-              x.1,
-              λ rows is K.
-                  let y = x.2 rows is in
-                  y.2 K ∙ ap (λ (l : Rows). run (drop k (tags_of v m)) (frame n l K) k) (ended y.1 h) ∙ run_none (drop k (tags_of v m)) n K k,
-            );
-      })
+  pub rows_done : hi ≤ r → RowsDone t v m (first_of t g + 1) (end_of t g) from (Ok c)
+  rows_done h = inside (Ok c) (record {
+    pass = λ i s.
+        let x = inv.so_far.going i s in
+        let k = x.0 in (
+          k,
+          x.1,
+          λ rows is K.
+              let y = x.2 rows is in
+              y.2 K ∙ ap (λ (l : Rows). run (drop k (tags_of v m)) (frame n l K) k) (ended y.1 h) ∙ run_none (drop k (tags_of v m)) n K k,
+        );
+  })
 
   module _ (h : r < hi) where
     rows_head : Head t r hi inv.some_left.rows
@@ -280,13 +276,16 @@ module _ (t : Table) (v : Service) (m : List ℕ) (g hi : ℕ) (from : Cursor) (
         rows_fits = taken.fits
 
         module _ (n2 : ℕ) (en : n2 ≡ n + 1) where
-          pub rows_again : (d : Cursor) → OnceDone t v m r c d → RowsInv t v m g hi from r n2 d
-          rows_again d dn = rw en (record { own = inv.own; end = inv.end; some_left = inv.some_left; above = inv.above; fits = taken.fits; so_far = go inv.so_far dn })
-            where
-              go : RowsAt t v m lo hi from r n c → OnceDone t v m r c d → RowsAt t v m lo hi from r (n + 1) d
-              go (stopped e p) o = absurd (tag_runs t r (sym taken.tag ∙ e))
-              go (going f) (once_passed p) = going (λ i s.
-                  let x = f i s in
+          once_more : (d : Cursor) → OncePass t v m r c d → RowsInv t v m g hi from r n2 d
+          once_more d p = rw en (record {
+            own = inv.own;
+            end = inv.end;
+            some_left = inv.some_left;
+            above = inv.above;
+            fits = taken.fits;
+            so_far = record {
+              going = λ i s.
+                  let x = inv.so_far.going i s in
                   let y = p.pass x.0 x.1 in (
                     y.0,
                     y.1,
@@ -296,66 +295,60 @@ module _ (t : Table) (v : Service) (m : List ℕ) (g hi : ℕ) (from : Cursor) (
                           q.3,
                           λ K. q.7 K ∙ y.2 n taken.few q.1 q.2 q.5 K ∙ ap (λ (l : Rows). run (drop y.0 (tags_of v m)) (frame (n + 1) l K) y.0) (sym q.4),
                         ),
-                  ))
-              go (going f) (once_stopped e p) = stopped e (record {
-                stop = λ i s.
-                    let x = f i s in
-                    let y = p.stop x.0 x.1 in (
-                      y.0,
-                      y.1,
-                      λ rows is K.
-                          let q = rows_step i x.0 x.2 rows is in
-                          q.7 K ∙ y.2 n taken.few q.1 q.2 q.5 K,
-                    );
-              })
+                  );
+            };
+          })
+
+          pub rows_again : (w : Result Cursor ℕ) → OnceDone t v m r c w → (d : Cursor) → w ≡ Ok d → RowsInv t v m g hi from r n2 d
+          rows_again w o d e = once_more d (subst (OnceDone t v m r c) e o)
 
           -- with nothing inside it
           pub rows_leaf : (d : Cursor) → Stepped v m c d → (b : Bool) → b ≡ ltb (r + 1) (end_of t r) → b ≡ false → RowsInv t v m g hi from r n2 d
-          rows_leaf d st b eb leaf = rows_again d (once_leaf t v m r c taken.tag d st (sym eb ∙ leaf))
+          rows_leaf d st b eb leaf = once_more d (once_leaf t v m r c taken.tag d st (sym eb ∙ leaf))
+
+        -- no message goes on inside it
+        pub rows_stop : (p : ℕ) → OnceStop t v m r c p → RowsDone t v m (first_of t g + 1) (end_of t g) from (Err p)
+        rows_stop p o = inside (Err p) (record {
+          stop = λ i s.
+              let x = inv.so_far.going i s in
+              let y = o.stop x.0 x.1 in (
+                y.0,
+                y.1,
+                λ rows is K.
+                    let q = rows_step i x.0 x.2 rows is in
+                    q.7 K ∙ y.2 n taken.few q.1 q.2 q.5 K,
+              );
+        })
 
       -- it does not
       not_here : (o : Bool) → Untaken t r n c o → (k : ℕ) → Stands v m k c → takes_at (tags_of v m) k n (tag_of t r) (most_of t r) ≡ false
       not_here o u k s = takes_at_lem t v m k c s n r (tag_of t r) (most_of t r) refl ∙ u.not
 
       -- .. and is owed
-      pub rows_short : w ≡ Owes → (d : Cursor) → d ≡ halted c → RowsDone t v m (first_of t g + 1) (end_of t g) from d
-      rows_short ew d ed = subst (λ (x : Cursor). RowsDone t v m lo (end_of t g) from x) (sym ed) (inside (halted c) (rows_stopped refl (go inv.so_far)))
-        where
-          u : Untaken t r n c true
-          u = subst (TurnIs t r n c) ew tn
-
-          go : RowsAt t v m lo hi from r n c → RowsStop t v m lo hi from c.at
-          go (stopped e p) = p
-          go (going f) = record {
-            stop = λ i s.
-                let x = f i s in
-                let k = x.0 in (
-                  k,
-                  stands_at v m k c x.1,
-                  λ rows is K.
-                      let q = rows_step i k x.2 rows is in
-                      q.7 K ∙ row_owe (tags_of v m) k n (first_of t r) (tag_of t r) (req_of t r) (most_of t r) q.1 q.2 K (not_here true u k x.1) u.owes,
-                );
-          }
+      pub rows_short : w ≡ Owes → RowsDone t v m (first_of t g + 1) (end_of t g) from (Err c.at)
+      rows_short ew = let u : Untaken t r n c true = subst (TurnIs t r n c) ew tn in inside (Err c.at) (record {
+        stop = λ i s.
+            let x = inv.so_far.going i s in
+            let k = x.0 in (
+              k,
+              stands_at v m k c x.1,
+              λ rows is K.
+                  let q = rows_step i k x.2 rows is in
+                  q.7 K ∙ row_owe (tags_of v m) k n (first_of t r) (tag_of t r) (req_of t r) (most_of t r) q.1 q.2 K (not_here true u k x.1) u.owes,
+            );
+      })
 
       -- .. or passed
       pub rows_next : w ≡ Passes → (e : ℕ) → e ≡ end_of t r → RowsInv t v m g hi from e 0 c
-      rows_next ew e ee = rw ee (record {
+      rows_next ew e ee = let u : Untaken t r n c false = subst (TurnIs t r n c) ew tn in rw ee (record {
         own = inv.own;
         end = inv.end;
         some_left = record { rows = rows_head.rest; are = rows_head.beside };
         above = omega (arith, inv.above, rows_it.up, rows_it.down);
         fits = omega arith;
-        so_far = go inv.so_far;
-      })
-        where
-          u : Untaken t r n c false
-          u = subst (TurnIs t r n c) ew tn
-
-          go : RowsAt t v m lo hi from r n c → RowsAt t v m lo hi from (end_of t r) 0 c
-          go (stopped q p) = stopped q p
-          go (going f) = going (λ i s.
-              let x = f i s in
+        so_far = record {
+          going = λ i s.
+              let x = inv.so_far.going i s in
               let k = x.0 in (
                 k,
                 x.1,
@@ -365,7 +358,9 @@ module _ (t : Table) (v : Service) (m : List ℕ) (g hi : ℕ) (from : Cursor) (
                       q.6,
                       λ K. q.7 K ∙ row_pass (tags_of v m) k n (first_of t r) (tag_of t r) (req_of t r) (most_of t r) q.1 q.2 K (not_here false u k x.1) u.owes,
                     ),
-              ))
+              );
+        };
+      })
 
     -- the rows fall that are left, or how often the row at hand may still come
     pub rows_less : (e : ℕ) → e ≡ end_of t r → turns hi e 0 < turns hi r n
@@ -395,8 +390,8 @@ module _ (t : Table) (sd : Sound t) (v : Service) (m : List ℕ) (from : Cursor)
   o = own t sd
 
   -- it comes once
-  pub all_done : (d : Cursor) → OnceDone t v m 0 from d → RowsDone t v m 0 (length t) from d
-  all_done d (once_passed p) = rows_passed (record {
+  pub all_done : (d : Result Cursor ℕ) → OnceDone t v m 0 from d → RowsDone t v m 0 (length t) from d
+  all_done (Ok d) p = record {
     pass = λ i s.
         let x = p.pass i s in
         let j = x.0 in (
@@ -409,8 +404,8 @@ module _ (t : Table) (sd : Sound t) (v : Service) (m : List ℕ) (from : Cursor)
               ∙ row_pass (tags_of v m) j 1 (first_of t 0) (tag_of t 0) (req_of t 0) (most_of t 0) z.0 none K (at_most (tags_of v m) j 1 (tag_of t 0) (most_of t 0) (omega (arith, o.once))) (owed_some (req_of t 0) 1 (λ e. omega arith))
               ∙ run_none (drop j (tags_of v m)) 0 K j,
         );
-  })
-  all_done d (once_stopped e p) = rows_stopped e (record {
+  }
+  all_done (Err q) p = record {
     stop = λ i s.
         let x = p.stop i s in (
           x.0,
@@ -419,11 +414,11 @@ module _ (t : Table) (sd : Sound t) (v : Service) (m : List ℕ) (from : Cursor)
               let z = all_rows t o rows is in
               ap (λ (l : Rows). run (drop i (tags_of v m)) (frame zero l K) i) z.2 ∙ x.2 0 (omega (arith, o.once)) z.0 none z.1 K,
         );
-  })
+  }
 
   -- or not at all, and is owed
-  pub all_stuck : (x : ℕ) → x ≡ tag_of t 0 → (from.tag ≡ x → ⊥) → (d : Cursor) → d ≡ halted from → RowsDone t v m 0 (length t) from d
-  all_stuck x ex ne d ed = subst (λ (y : Cursor). RowsDone t v m 0 (length t) from y) (sym ed) (rows_stopped refl (record {
+  pub all_stuck : (x : ℕ) → x ≡ tag_of t 0 → (from.tag ≡ x → ⊥) → RowsDone t v m 0 (length t) from (Err from.at)
+  all_stuck x ex ne = record {
     stop = λ i s. (
       i,
       stands_at v m i from s,
@@ -434,4 +429,4 @@ module _ (t : Table) (sd : Sound t) (v : Service) (m : List ℕ) (from : Cursor)
           (takes_at_lem t v m i from s 0 0 (tag_of t 0) (most_of t 0) refl ∙ sym (takes_other from.tag (tag_of t 0) 0 (most_of t 0) (λ e. ne (e ∙ sym ex))))
           (owed_zero (req_of t 0) 0 refl ∙ o.must),
     );
-  }))
+  }

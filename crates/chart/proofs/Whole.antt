@@ -3,8 +3,7 @@ use mathlib.Core.Path.{◌≡◌, refl, subst, ◌∙◌}
 use mathlib.Core.List.{List, map}
 use mathlib.Core.Logic.{inl}
 use Prim.Native.Nat.{ℕ, suc, ◌<◌, ◌≤◌}
-use native.Mathlib.Decide.{dec_lt}
-use native.Mathlib.Omega.{arith}
+use Rattle.std.specs.Prelude.{Ok, Err}
 use lib.ListN.{length, get_or, drop, drop_of_length-le}
 use lib.Seq.{drop-cons}
 use Rattle.service.specs.declared.Service.{Service}
@@ -17,8 +16,8 @@ use Rattle.chart.specs.Forms.Columns.{tag_of}
 use Rattle.chart.specs.Forms.Next.{next_row, rows_of}
 use Rattle.chart.specs.Tags.{tags_of}
 use Rattle.chart.specs.Forms.Cursor.{CursorIs}
-use Rattle.chart.specs.Laws.CursorLaws.{stands_first, stands_lt, stands_ge, stands_none, stands_at}
-use Rattle.chart.specs.Forms.Placing.{RowsPass, RowsStop, RowsDone, rows_passed, rows_stopped}
+use Rattle.chart.specs.Laws.CursorLaws.{stands_first, stands_lt, stands_ge, stands_at}
+use Rattle.chart.specs.Forms.Placing.{RowsDone}
 use Rattle.chart.specs.Answer.{StuckAt}
 use Rattle.chart.proofs.Theory.{Fine, run_end, run_fail}
 use Rattle.chart.proofs.Plain.{placed_one, stuck_fails}
@@ -53,36 +52,20 @@ unfolding free
 run_all ts j le = rw (drop_of_length-le ts le) (run_end done j refl)
 
 module _ (t : Table) (sd : Sound t) (v : Service) (m : List ℕ) (c d : Cursor) (h : CursorIs v m 0 c) where
-  over : RowsPass t v m 0 (length t) c d → d.at < length m → StuckAt t v m d.at
-  over p e =
+  pub whole_over : RowsDone t v m 0 (length t) c (Ok d) → d.at < length m → StuckAt t v m d.at
+  whole_over p e =
       let x = p.pass 0 (stands_first v m c h) in
       let f = x.2 (chart_of t) (chart_is t sd) done ∙ run_done (tags_of v m) x.0 (stands_lt v m x.0 d x.1 e) in
       record { j = x.0; start = stands_at v m x.0 d x.1; fails = stuck_fails (chart_of t) (tags_of v m) x.0 (fine t sd) f }
 
-  short : RowsStop t v m 0 (length t) c d.at → StuckAt t v m d.at
-  short p =
-      let x = p.stop 0 (stands_first v m c h) in
-      record { j = x.0; start = x.1; fails = stuck_fails (chart_of t) (tags_of v m) x.0 (fine t sd) (x.2 (chart_of t) (chart_is t sd) done) }
-
-  pub whole_placed : RowsDone t v m 0 (length t) c d → (d.tag ≡ 2 → ⊥) → length m ≤ d.at → Reading (chart_of t) (tags_of v m) (rows_of t (tags_of v m))
-  whole_placed (rows_stopped q p) ne e = absurd (ne q)
-  whole_placed (rows_passed p) ne e =
+  pub whole_placed : RowsDone t v m 0 (length t) c (Ok d) → length m ≤ d.at → Reading (chart_of t) (tags_of v m) (rows_of t (tags_of v m))
+  whole_placed p e =
       let x = p.pass 0 (stands_first v m c h) in
       let f = placed_one (chart_of t) (tags_of v m) (fine t sd) (x.2 (chart_of t) (chart_is t sd) done ∙ run_all (tags_of v m) x.0 (stands_ge v m x.0 d x.1 e)) in
       reading_of t sd (tags_of v m) f.0 f.1
 
-  pub whole_over : RowsDone t v m 0 (length t) c d → d.at < length m → StuckAt t v m d.at
-  whole_over (rows_passed p) e = over p e
-  whole_over (rows_stopped q p) e = short p
-
-  -- past the last segment the tag is 0
-  pub whole_stuck : RowsDone t v m 0 (length t) c d → d.tag ≡ 2 → StuckAt t v m d.at
-  whole_stuck (rows_stopped q p) e = short p
-  whole_stuck (rows_passed p) e = go (dec_lt d.at (length m))
-    where
-      go : Dec (d.at < length m) → StuckAt t v m d.at
-      go (yes g) = over p g
-      go (no g) =
-          let x = p.pass 0 (stands_first v m c h) in
-          let z = stands_none v m x.0 d x.1 (omega arith) in
-          absurd (omega (arith, z, e))
+module _ (t : Table) (sd : Sound t) (v : Service) (m : List ℕ) (c : Cursor) (h : CursorIs v m 0 c) where
+  pub whole_stuck : (p : ℕ) → RowsDone t v m 0 (length t) c (Err p) → StuckAt t v m p
+  whole_stuck p s =
+      let x = s.stop 0 (stands_first v m c h) in
+      record { j = x.0; start = x.1; fails = stuck_fails (chart_of t) (tags_of v m) x.0 (fine t sd) (x.2 (chart_of t) (chart_is t sd) done) }

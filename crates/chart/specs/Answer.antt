@@ -1,8 +1,6 @@
 -- What placing a message answers: the reading of its segments on the chart, or where it fails.
-use Rattle.std.specs.Prelude.{◌≡◌, List, ℕ}
+use Rattle.std.specs.Prelude.{◌≡◌, List, ℕ, Result, Ok, Err, ⊤}
 use Rattle.service.specs.declared.Service.{Service}
-use Rattle.chart.specs.declared.Placed.{Placed}
-use Rattle.chart.specs.declared.Placed.TheVariants.{Whole, Stuck}
 use Rattle.chart.specs.Chart.{Reading, FailsAt}
 use Rattle.chart.specs.Table.{Table, chart_of}
 use Rattle.chart.specs.Tags.{tags_of}
@@ -15,7 +13,7 @@ pub record StuckAt (t : Table) (v : Service) (m : List ℕ) (p : ℕ) : Type 0 w
   pub start : p ≡ start_at v m j
   pub fails : FailsAt (chart_of t) (tags_of v m) j
 
--- Whole: the segments have a reading, and these are its rows
-abbrev pub Answers : Table → Service → List ℕ → Placed → Type 0
-Answers t v m Whole = Reading (chart_of t) (tags_of v m) (rows_of t (tags_of v m))
-Answers t v m (Stuck p) = StuckAt t v m p
+-- Ok: the segments have a reading, and these are its rows
+abbrev pub Answers : Table → Service → List ℕ → Result ⊤ ℕ → Type 0
+Answers t v m (Ok u) = Reading (chart_of t) (tags_of v m) (rows_of t (tags_of v m))
+Answers t v m (Err p) = StuckAt t v m p

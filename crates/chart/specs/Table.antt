@@ -1,16 +1,13 @@
 -- A chart's table as the tree that it is.
 use Rattle.std.specs.Prelude.{Bool, List, [], ◌∷◌, ℕ, suc, eqb}
 use Rattle.service.specs.Tests.{if}
-use Rattle.table.specs.Entries.{tag_in, parent_in, status_in, repeats_in, required, never, outside}
+use Rattle.table.specs.declared.Row.{Row}
+use Rattle.table.specs.Entries.{tag_in, parent_in, status_in, required, most_in, outside}
 use Rattle.chart.specs.Chart.{Rows, none, row}
 
--- a table, one line for each row
+-- a table, one row for each segment and group
 abbrev pub Table : Type 0
-Table = List (List ℕ)
-
--- 'each at most its number of times': how often a row may come, never or its repeats
-abbrev pub most_in : List ℕ → ℕ
-most_in l = if (never (status_in l)) 0 (repeats_in l)
+Table = List Row
 
 -- the row r with the rows inside it and those beside it: a segment, or a group, whose first row is its first segment
 unfoldable pub row_over : ℕ → ℕ → Bool → ℕ → Rows → Rows → Rows

@@ -2,7 +2,9 @@
 use Rattle.std.specs.Prelude.{ℕ, ◌+◌, ◌-◌, ◌≤◌, ◌≡◌, List, [], ◌∷◌, ◌++◌, map, Bool, true, false, length, take, drop}
 use Rattle.service.specs.declared.Service.{Service}
 use Rattle.service.specs.Tests.{last_of}
-use Rattle.segments.specs.SegmentList.{Piece, finished, segments_after}
+use Rattle.segments.specs.declared.Piece.{Piece}
+use Rattle.segments.specs.declared.Piece.TheVariants.{Finished as finished}
+use Rattle.segments.specs.SegmentList.{segments_after}
 use Rattle.interchange.specs.Messages.{Extent, closed, is_closed, starts_at, ends_at, bytes_of}
 
 -- whether the last of some messages is closed, or, of none, what is given

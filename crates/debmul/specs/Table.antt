@@ -1,5 +1,6 @@
 -- The DEBMUL chart: the table of the guide's section 2.2 with what the segments' pages say.
 use Rattle.std.specs.Prelude.{List, [], ◌∷◌, ℕ}
+use Rattle.table.specs.declared.Row.{Row}
 use Rattle.table.specs.Entries.{Entry, entry, outside, lines_from}
 
 -- the rows, 'numbered from 1 in the order of' 000 section 2.2; row 0 is the message: 'such a group, opened by UNH'
@@ -133,7 +134,7 @@ table =
     []
 
 -- its lines, as the code has them
-unfoldable pub DEBMUL : List (List ℕ)
+unfoldable pub DEBMUL : List Row
 DEBMUL = lines_from 0 table
 
 -- how many rows it has, row 0 among them

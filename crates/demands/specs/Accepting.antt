@@ -11,8 +11,7 @@ use Rattle.message.specs.Segs.{segs_of}
 use Rattle.message.specs.Kinds.{means, chart_for, rules_for}
 use Rattle.message.specs.Faults.{told, tell_all}
 use Rattle.report.specs.declared.Counts.{Counts}
-use Rattle.report.specs.declared.Report.{Report}
-use Rattle.report.specs.declared.Report.TheVariants.{Accepted}
+use Rattle.report.specs.Answers.{Report, Accepted}
 use Rattle.report.specs.Reported.{bare_of, Room, room_of, fits, early, In, Of, counts_of, filled, Reported}
 
 -- the message m in lists of this room

@@ -1,15 +1,14 @@
 -- Demand 1: "Every call answers, for all bytes and all lent room." The contracts that are relations can be met whatever the bytes and the lists; the others say what the answer equals.
 use Rattle.std.specs.Prelude.{ℕ, List}
 use Rattle.service.specs.declared.Service.{Service}
-use Rattle.interchange.specs.declared.Opening.{Opening}
-use Rattle.interchange.specs.declared.Closing.{Closing}
+use Rattle.interchange.specs.Answers.{Opening, Closing}
 use Rattle.interchange.specs.Opened.{OpenedAs}
 use Rattle.interchange.specs.Closed.{ClosedAs}
 use Rattle.lent.specs.Lists.{Lists, Left}
 use Rattle.report.specs.Reported.{Reported}
-use Rattle.report.specs.declared.Report.{Report}
+use Rattle.report.specs.Answers.{Report}
 use Rattle.report.specs.Judged.{Judged}
-use Rattle.walk.specs.declared.Walked.{Walked}
+use Rattle.walk.specs.Steps.{Walked}
 use Rattle.walk.specs.Walks.{Walks, Judges}
 use Rattle.twineherald.specs.declared.ClosingNumbers.{ClosingNumbers}
 use Rattle.twineherald.specs.Numbers.{OpenedWith, ClosedWith, Stepped, Checked}

@@ -1,8 +1,9 @@
 -- Demand 3 in small files: what it asks for can be met, and what may be lost is sometimes lost and sometimes not.
 use Rattle.std.specs.Prelude.{ℕ, ◌≡◌, List, [], ◌∷◌}
+use Rattle.numbers.specs.declared.Number.TheVariants as numbers
 use Rattle.service.specs.Service.{plain_service}
 use Rattle.values.specs.Text.{text}
-use Rattle.interchange.specs.declared.Opening.TheVariants.{Refused}
+use Rattle.interchange.specs.Answers.{Refused}
 use Rattle.interchange.specs.Messages.{Extent, closed, messages_of}
 use Rattle.interchange.specs.Envelope.{refusal, body_of}
 use Rattle.interchange.specs.Opened.{Opened, OpenedAs}
@@ -52,5 +53,5 @@ pub record DamageCases : Type 0 where
   -- "If the last message is hit this way the interchange may be refused by 4": the UNZ is taken in; or it opens
   pub last_one : One three plain_service 0 (closed 21 39 ∷ closed 39 57 ∷ []) 57 62 70 71 []
   pub last_within : (d : List ℕ) → Within 57 70 (third d)
-  pub last_refused : OpenedAs (replaced three (third (text "FTX?"))) (Refused (refusal 4))
+  pub last_refused : OpenedAs (replaced three (third (text "FTX?"))) (Refused (refusal numbers.End))
   pub last_opens : Opened (replaced three (third (text "FTX"))) plain_service 0

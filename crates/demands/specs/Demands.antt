@@ -1,19 +1,21 @@
 -- The three demands of document 01, in their order and words: each field is a demand, or a sentence of one, on the contracts of the calls. `met` of DemandsMet proves it.
 use Rattle.std.specs.Prelude.{ℕ, ◌≤◌, ◌≡◌, ◌⊎◌, List, [], ◌∷◌, ◌++◌, true, length}
+use Rattle.numbers.specs.Table.{table_number}
+use Rattle.numbers.specs.declared.Number.TheVariants as numbers
 use Rattle.service.specs.declared.Service.{Service}
 use Rattle.values.specs.Exactly.{Exactly}
 use Rattle.interchange.specs.declared.Refusal.{Refusal}
-use Rattle.interchange.specs.declared.Opening.TheVariants.{Refused}
+use Rattle.interchange.specs.Answers.{Refused}
 use Rattle.interchange.specs.Messages.{Extent, closed, messages_of}
 use Rattle.interchange.specs.Envelope.{refusal, body_of}
 use Rattle.interchange.specs.Opened.{Opened, OpenedAs}
 use Rattle.damage.specs.Damage.{last_closed, Stretch, Mark, next, hit, replaced, damaged, Within}
 use Rattle.lent.specs.Lists.{Lists}
 use Rattle.report.specs.declared.Counts.{Counts}
-use Rattle.report.specs.declared.Report.{Report}
-use Rattle.report.specs.declared.Report.TheVariants as report
+use Rattle.report.specs.Answers.{Report}
+use Rattle.report.specs.Answers as report
 use Rattle.report.specs.Reported.{Applies, Lowest, room_of, Reported}
-use Rattle.rewrite.specs.declared.Rewriting.TheVariants.{Written}
+use Rattle.rewrite.specs.Answers.{Written}
 use Rattle.rewrite.specs.Plain.{values_of, rewritten, rewriting_of, room_after}
 use Rattle.cases.specs.Cases.{Cases}
 use Rattle.cases.specs.AdviceCases.{AdviceCases}
@@ -41,7 +43,7 @@ pub record Demands : Type 0 where
   pub accepted : (v : Service) (m : List ℕ) (x x' : Lists) (y : Report) → Reported v m x x' y → Exactly ((c : Counts) × (y ≡ report.Accepted c)) ((n k : ℕ) → Applies v m (room_of x) n k → ⊥)
   -- "Otherwise the refusal is the one document 01 fixes": exactly the lowest number that applies, and under it the first segment
   pub refused : (v : Service) (m : List ℕ) (x x' : Lists) (y : Report) → Reported v m x x' y → (n k : ℕ)
-      → Exactly ((f : Refusal) × (y ≡ report.Refused f) × (f.number ≡ n) × (f.segment ≡ k)) (Lowest v m (room_of x) n k)
+      → Exactly ((f : Refusal) × (y ≡ report.Refused f) × (table_number f.number ≡ n) × (f.segment ≡ k)) (Lowest v m (room_of x) n k)
   -- "Rewriting an interchange in plain service characters keeps each value, and rewriting twice changes nothing more": whenever it answers that n bytes are written
   pub values_kept : (s o : List ℕ) (n : ℕ) → rewriting_of s (length o) ≡ Written n → values_of (rewritten s) ≡ values_of s
   pub twice : (s o : List ℕ) (n : ℕ) → rewriting_of s (length o) ≡ Written n → (rewriting_of (rewritten s) (length o) ≡ Written n) × (room_after (rewritten s) o ≡ room_after s o)
@@ -61,7 +63,7 @@ pub record Demands : Type 0 where
   pub several : (s : List ℕ) (v : Service) (first : ℕ) (k : List Mark) → Chosen s v first k → Unharmed v s (damaged s k) first k
   -- "If the last message is hit this way the interchange may be refused by 4": so it is, or it opens as it did
   pub last_hit : (s : List ℕ) (v : Service) (first : ℕ) (before : List Extent) (a t z e : ℕ) → One s v first before a t z e [] → (c : Stretch) → Within a z c
-      → length (replaced s c) ≤ 1048576 → Opened (replaced s c) v first ⊎ OpenedAs (replaced s c) (Refused (refusal 4))
+      → length (replaced s c) ≤ 1048576 → Opened (replaced s c) v first ⊎ OpenedAs (replaced s c) (Refused (refusal numbers.End))
   -- all this of every message that has its own UNT, as has the one before it, if there is one; why that is asked of the one before; and small files
   pub any : (s : List ℕ) (v : Service) (first : ℕ) (before : List Extent) (a e : ℕ) (after : List Extent) → Opened s v first
       → messages_of v s (body_of v s first) ≡ before ++ (closed a e ∷ after) → last_closed true before ≡ true → (t z : ℕ) × One s v first before a t z e after

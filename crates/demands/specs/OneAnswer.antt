@@ -1,12 +1,20 @@
 -- "prove that no second answer satisfies it": every public function of every crate, what its contract says of the answer, and that two answers that meet it are one,
 -- the final content of lent lists included. Where the answer is one up to something alone, the field says what is one; docs/DECISIONS.md says why.
-use Rattle.std.specs.Prelude.{ℕ, ◌%◌, ◌≡◌, List, Bool, false, not, ◌&&◌, ◌||◌, length, drop, set}
+use Rattle.std.specs.Prelude.{ℕ, ◌%◌, ◌≡◌, List, [], Bool, false, not, ◌&&◌, ◌||◌, length, drop, set, Option, None}
+use Rattle.numbers.specs.declared.Number.{Number}
+use Rattle.numbers.specs.Table.{table_number}
+use Rattle.numbers.specs.Table.{number_told}
+use Rattle.faults.specs.Firsts.{told_of}
 use Rattle.service.specs.declared.Service.{Service}
 use Rattle.service.specs.Service.{is_mark, characters_of, fitting}
-use Rattle.segments.specs.Classes.{class_of}
+use Rattle.segments.specs.Classes.{class_of, is_break}
 use Rattle.segments.specs.Forms.Bytes.{past_breaks}
 use Rattle.segments.specs.Forms.Segments.{segment_at}
-use Rattle.segments.specs.SegmentList.{segments_from, start_at}
+use Rattle.segments.specs.declared.Piece.{Piece}
+use Rattle.segments.specs.declared.Text.{Text}
+use Rattle.segments.specs.declared.Segments.{Segments}
+use Rattle.segments.specs.Left.{segments_left}
+use Rattle.segments.specs.SegmentList.{start_of, segments_from, start_at}
 use Rattle.parts.specs.Parts.{lex, value_of, elements, value_at}
 use Rattle.parts.specs.Forms.Lex.{token_at}
 use Rattle.values.specs.Numbers.{value_from, value_in}
@@ -14,45 +22,49 @@ use Rattle.values.specs.Text.{same_list}
 use Rattle.values.specs.Forms.Values.{code_of, amount_of, is_capitals, number_of, is_number}
 use Rattle.interchange.specs.Messages.{found_from}
 use Rattle.interchange.specs.Envelope.{is_reference, refusal}
+use Rattle.interchange.specs.Forms.Answers.{read_by}
 use Rattle.interchange.specs.Opened.{OpenedAs}
 use Rattle.interchange.specs.Closed.{ClosedAs}
-use Rattle.faults.specs.declared.First.{First}
 use Rattle.faults.specs.declared.Fault.{Fault}
 use Rattle.faults.specs.Firsts.{lesser, place_unless, number_first}
 use Rattle.lent.specs.Lists.{Lists, left}
 use Rattle.lent.specs.Forms.Puts.{past_one}
 use Rattle.lines.specs.Lines.{message_line, end_line, open_line, Lined}
+use Rattle.chart.specs.Table.{Table}
 use Rattle.chart.specs.declared.Cursor.{Cursor}
 use Rattle.chart.specs.Forms.Cursor.{CursorIs, Stepped as Onwards}
 use Rattle.chart.specs.Answer.{Answers}
 use Rattle.chart.specs.Forms.Next.{next_row}
 use Rattle.tally.specs.Tallied.{tally_of}
 use Rattle.tally.specs.Places.{passed}
-use Rattle.message.specs.Segs.{seg_at}
+use Rattle.message.specs.Segs.{Seg, seg_at}
 use Rattle.message.specs.Placed.{placed_on}
 use Rattle.message.specs.Rules.{worth, paymul_of}
 use Rattle.message.specs.Advices.{debmul_of}
 use Rattle.message.specs.Faults.{tell_all, least_of}
-use Rattle.numbering.specs.declared.Numbering.{Numbering}
-use Rattle.numbering.specs.Forms.Steps.{numbering_start, numbering_step}
+use Rattle.rule.specs.declared.placed.Places.{Places}
+use Rattle.rule.specs.Left.{places_left}
+use Rattle.rule.specs.Refusals.{by_rules}
+use Rattle.numbering.specs.Steps.{line_step, lines_after, sequence_step, sequences_after, control_step, control_after}
 use Rattle.amounts.specs.declared.Amounts.{Amounts}
-use Rattle.amounts.specs.Forms.Steps.{sums_start, sums_of, sums_step, amounts_close, own_at}
+use Rattle.amounts.specs.Forms.Steps.{sums_start, sums_of, sums_step, amounts_close, own_of, own_at}
 use Rattle.parties.specs.declared.Parties.{Parties}
 use Rattle.parties.specs.Forms.Steps.{parties_start, parties_step, parties_close}
 use Rattle.details.specs.declared.Details.{Details}
 use Rattle.details.specs.Forms.Steps.{details_start, details_step, details_close}
-use Rattle.trailer.specs.declared.Trailer.{Trailer}
-use Rattle.trailer.specs.Forms.Steps.{trailer_start, taken}
+use Rattle.trailer.specs.Trailing.{count_step, count_after, reference_step, reference_after}
 use Rattle.listing.specs.Listing.{lists_after}
+use Rattle.table.specs.declared.Row.{Row}
+use Rattle.table.specs.Entries.{tag_in, most_in, required}
 use Rattle.paymul.specs.Table.{PAYMUL}
 use Rattle.debmul.specs.Table.{DEBMUL}
 use Rattle.kinds.specs.declared.Kind.{Kind}
 use Rattle.kinds.specs.Kinds.{table_of}
-use Rattle.report.specs.declared.Report.{Report}
+use Rattle.report.specs.Answers.{Report}
 use Rattle.report.specs.Reported.{Reported}
 use Rattle.report.specs.Judged.{Judged}
 use Rattle.walk.specs.Walks.{Walks, Judges}
-use Rattle.rewrite.specs.declared.Rewriting.{Rewriting}
+use Rattle.rewrite.specs.Answers.{Rewriting}
 use Rattle.rewrite.specs.Plain.{rewriting_of, room_after}
 use Rattle.twineherald.specs.declared.RewritingNumbers.{RewritingNumbers}
 use Rattle.twineherald.specs.Numbers.{OpenedWith, ClosedWith, Stepped, Checked, Rewritten}
@@ -97,7 +109,10 @@ pub record OneAnswer : Type 0 where
   pub service_fits : (v : Service) → OnlyIs (fitting v)
   -- segments
   pub segments_classify : (v : Service) (b : ℕ) → OnlyIs (class_of v b)
+  pub segments_is_break : (b : ℕ) → OnlyIs (is_break b)
   pub segments_skip_breaks : (s : List ℕ) (at : ℕ) → OnlyIs (past_breaks at (drop at s))
+  pub segments_start : (p : Piece) → OnlyIs (start_of p)
+  pub segments_segments : (text : Text) (at : ℕ) → Only (λ (r : Segments). (segments_left r ≡ segments_from text.service text.bytes.now at) × (r.text ≡ text) × (r.at ≡ at))
   pub segments_segment_at : (s : List ℕ) (at : ℕ) (v : Service) → OnlyIs (segment_at v at s)
   -- parts: `component` gives a position, and the value there is one
   pub parts_token_at : (s : List ℕ) (i : ℕ) (v : Service) → OnlyIs (token_at v i (drop i s))
@@ -111,45 +126,63 @@ pub record OneAnswer : Type 0 where
   pub values_same_in : (s : List ℕ) (at : ℕ) (v : Service) (e c other f d : ℕ) → OnlyIs (same_list (value_in v at s e c) (value_in v other s f d))
   pub values_number_is : (s : List ℕ) (at : ℕ) (v : Service) (e c n : ℕ) → OnlyIs (is_number (number_of (value_in v at s e c)) n)
   -- interchange
-  pub interchange_refuse : (number : ℕ) → OnlyIs (refusal number)
+  pub interchange_refuse : (number : Number) → OnlyIs (refusal number)
   pub interchange_is_reference : (n : ℕ) → OnlyIs (is_reference n)
+  pub interchange_characters_of : (s : List ℕ) → OnlyIs (read_by s)
   pub interchange_open : (s : List ℕ) → Only (OpenedAs s)
   pub interchange_find : (s : List ℕ) (at : ℕ) (v : Service) → OnlyIs (found_from v s at)
   pub interchange_close : (s : List ℕ) → Only (ClosedAs s)
+  -- numbers
+  pub numbers_from : (c : Number) → OnlyIs (table_number c)
+  pub numbers_told : (c : Option Number) → OnlyIs (number_told c)
   -- faults
-  pub faults_earlier : (a b : First) → OnlyIs (lesser a b)
+  pub faults_earlier : (a b : Option ℕ) → OnlyIs (lesser a b)
   pub faults_unless : (holds : Bool) (at : ℕ) → OnlyIs (place_unless holds at)
-  pub faults_keep : (first : First) (holds : Bool) (at : ℕ) → OnlyIs (lesser first (place_unless holds at))
-  pub faults_before : (number : ℕ) (first : First) (other : Fault) → OnlyIs (number_first number first other)
+  pub faults_keep : (first : Option ℕ) (holds : Bool) (at : ℕ) → OnlyIs (lesser first (place_unless holds at))
+  pub faults_before : (number : Number) (first : Option ℕ) (other : Option Fault) → Only (λ (f : Option Fault). told_of f ≡ number_first (table_number number) first (told_of other))
   -- lent
   pub lent_low16 : (x : ℕ) → OnlyIs (x % 65536)
   pub lent_low32 : (x : ℕ) → OnlyIs (x % 4294967296)
   pub lent_put : (o o1 o2 : List ℕ) (j b x y : ℕ) → o1 ≡ set o j b → x ≡ past_one j (length o) → o2 ≡ set o j b → y ≡ past_one j (length o) → filled x o1 ≡ filled y o2
-  -- truth
+  -- and, or and not: the language's own `&&`, `||` and `!`
   pub truth_both : (a b : Bool) → OnlyIs (a && b)
   pub truth_either : (a b : Bool) → OnlyIs (a || b)
   pub truth_isnt : (a : Bool) → OnlyIs (not a)
+  -- table
+  pub table_code : (r : Row) → OnlyIs (tag_in r)
+  pub table_most : (r : Row) → OnlyIs (most_in r)
+  pub table_is_required : (r : Row) → OnlyIs (required r.status)
   -- paymul
   pub paymul_chart : OnlyIs PAYMUL
   -- debmul
   pub debmul_chart : OnlyIs DEBMUL
+  -- kinds
+  pub kinds_table : (kind : Kind) → OnlyIs (table_of kind)
   -- chart
   pub chart_cursor_at : (m : List ℕ) (at : ℕ) (v : Service) → Only (CursorIs v m at)
   pub chart_step : (m : List ℕ) (v : Service) (c : Cursor) → Only (Onwards v m c)
   pub chart_place : (m : List ℕ) (v : Service) (kind : Kind) → Only (Answers (table_of kind) v m)
-  pub chart_next_row : (t : List (List ℕ)) (prev tag : ℕ) → OnlyIs (next_row t prev tag)
+  pub chart_next_row : (t : Table) (prev tag : ℕ) → OnlyIs (next_row t prev tag)
   -- tally
   pub tally_tally_of : (m : List ℕ) (v : Service) → OnlyIs (tally_of v m (segments_from v m 0))
   pub tally_segments_before : (m : List ℕ) (v : Service) (at : ℕ) → OnlyIs (passed (length m) at (segments_from v m 0))
   pub tally_segment_start : (m : List ℕ) (v : Service) (before : ℕ) → OnlyIs (start_at v m before)
-  -- numbering
-  pub numbering_start_lem : OnlyIs numbering_start
-  pub numbering_step_lem : (st : Numbering) (m : List ℕ) (v : Service) (at nth row orders : ℕ) → OnlyIs (numbering_step orders st (seg_at v m nth row at))
+  -- rule: by whatever rules it judges
+  pub rule_places : (text : Text) (t : Table) → OnlyUpTo places_left (λ (r : Places). places_left r ≡ placed_on t text.service text.bytes.now)
+  pub rule_refusal : (rules : List (ℕ × List ℕ)) (other : Option Fault) → Only (λ (f : Option Fault). told_of f ≡ by_rules rules (told_of other))
+  pub rule_judge : (rules : List Seg → List (ℕ × List ℕ)) (m : List ℕ) (v : Service) (t : Table) → Only (λ (f : Option Fault). told_of f ≡ by_rules (rules (placed_on t v m)) None)
+  -- numbering: the number and the place that each of its rules keeps, before the first segment and after one more
+  pub numbering_line_start : (LIN : ℕ) → OnlyIs (lines_after LIN [])
+  pub numbering_sequence_start : OnlyIs (sequences_after [])
+  pub numbering_control_start : (orders : ℕ) → OnlyIs (control_after orders [])
+  pub numbering_line_step : (LIN : ℕ) (st : ℕ × Option ℕ) (m : List ℕ) (v : Service) (at nth row : ℕ) → OnlyIs (line_step LIN st (seg_at v m nth row at))
+  pub numbering_sequence_step : (st : Option ℕ × Option ℕ) (m : List ℕ) (v : Service) (at nth row : ℕ) → OnlyIs (sequence_step st (seg_at v m nth row at))
+  pub numbering_control_step : (first : Option ℕ) (m : List ℕ) (v : Service) (at nth row orders : ℕ) → OnlyIs (control_step orders first (seg_at v m nth row at))
   -- amounts
   pub amounts_start : OnlyIs sums_start
   pub amounts_worth_at : (m : List ℕ) (v : Service) (at : ℕ) → OnlyIs (worth (amount_of (value_in v at m 1 1)))
   pub amounts_step : (st : Amounts) (m : List ℕ) (v : Service) (at nth row : ℕ)
-      → Only (λ (r : Amounts). (sums_of v m r ≡ sums_step (seg_at v m 0 23 0) (sums_of v m st) (seg_at v m nth row at)) × (r.order.at ≡ own_at st.order.at row at))
+      → Only (λ (r : Amounts). (sums_of v m r ≡ sums_step (sums_of v m st) (seg_at v m nth row at)) × (own_of r ≡ own_at (own_of st) row at))
   pub amounts_close_lem : (st : Amounts) (m : List ℕ) (v : Service) → OnlyIs (amounts_close v m st)
   -- parties
   pub parties_start_lem : OnlyIs parties_start
@@ -159,15 +192,17 @@ pub record OneAnswer : Type 0 where
   pub details_start_lem : OnlyIs details_start
   pub details_step_lem : (st : Details) (m : List ℕ) (v : Service) (at nth row : ℕ) → OnlyIs (details_step st (seg_at v m nth row at))
   pub details_close_lem : (st : Details) → OnlyIs (details_close st)
-  -- trailer
-  pub trailer_start_lem : OnlyIs trailer_start
-  pub trailer_step_lem : (st : Trailer) (m : List ℕ) (v : Service) (at nth segments : ℕ) → OnlyIs (taken segments (value_in v 0 m 1 0) st (value_in v at m) nth)
+  -- trailer: the place that each of its rules keeps
+  pub trailer_count_start : (UNT segments : ℕ) → OnlyIs (count_after UNT segments [])
+  pub trailer_reference_start : (UNT : ℕ) (m : List ℕ) (v : Service) → OnlyIs (reference_after UNT (value_in v 0 m 1 0) [])
+  pub trailer_count_step : (UNT : ℕ) (first : Option ℕ) (m : List ℕ) (v : Service) (at nth row segments : ℕ) → OnlyIs (count_step UNT segments first (seg_at v m nth row at))
+  pub trailer_reference_step : (UNT : ℕ) (first : Option ℕ) (m : List ℕ) (v : Service) (at nth row : ℕ) → OnlyIs (reference_step UNT (value_in v 0 m 1 0) first (seg_at v m nth row at))
   -- rules
-  pub rules_judge : (m : List ℕ) (v : Service) (t : List (List ℕ)) (segments orders : ℕ) → OnlyIs (least_of (tell_all (paymul_of segments orders (placed_on t v m))))
+  pub rules_judge : (m : List ℕ) (v : Service) (t : Table) (segments orders : ℕ) → Only (λ (f : Option Fault). told_of f ≡ least_of (tell_all (paymul_of segments orders (placed_on t v m))))
   -- advice
-  pub advice_judge : (m : List ℕ) (v : Service) (t : List (List ℕ)) (segments : ℕ) → OnlyIs (least_of (tell_all (debmul_of segments (placed_on t v m))))
+  pub advice_judge : (m : List ℕ) (v : Service) (t : Table) (segments : ℕ) → Only (λ (f : Option Fault). told_of f ≡ least_of (tell_all (debmul_of segments (placed_on t v m))))
   -- listing: what the lists are after it
-  pub listing_put_lists : (m : List ℕ) (v : Service) (t : List (List ℕ)) (segments orders : ℕ) (x : Lists) → OnlyIs (lists_after t v m segments orders x)
+  pub listing_put_lists : (m : List ℕ) (v : Service) (t : Table) (segments orders : ℕ) (x : Lists) → OnlyIs (lists_after t v m segments orders x)
   -- report
   pub report_check : (m : List ℕ) (v : Service) → OnlyWith (Reported v m)
   pub report_judge : (m : List ℕ) (v : Service) → Only (Judged v m)

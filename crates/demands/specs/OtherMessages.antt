@@ -7,8 +7,8 @@ use Rattle.interchange.specs.Envelope.{body_of}
 use Rattle.interchange.specs.Opened.{Opened}
 use Rattle.damage.specs.Damage.{last_closed, Before, Mark, whole, damaged, Hits, Beside, Stays}
 use Rattle.lent.specs.Lists.{Lists, Left}
-use Rattle.report.specs.declared.Report.{Report}
-use Rattle.walk.specs.declared.Walked.TheVariants.{Message}
+use Rattle.report.specs.Answers.{Report}
+use Rattle.walk.specs.Steps.{Message}
 use Rattle.walk.specs.Walks.{Walks, Judges}
 use Rattle.demands.specs.Runs.{Visit, Run, Steps, Owned, Over}
 

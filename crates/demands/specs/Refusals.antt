@@ -1,29 +1,29 @@
 -- Demand 1: "A refusal gives one number of the table, a segment and an offset, and every buffer lent for output is then unchanged." For every call, with no premise:
 -- that it answers at all is proved of each function where it stands, since none of them has a `requires`.
-use Rattle.std.specs.Prelude.{ℕ, suc, ◌≤◌, ◌<◌, ◌≡◌, ◌⊎◌, List, [], ◌∷◌, true, length, drop}
+use Rattle.std.specs.Prelude.{ℕ, suc, ◌≤◌, ◌<◌, ◌≡◌, ◌⊎◌, List, [], ◌∷◌, true, length, drop, Err}
+use Rattle.numbers.specs.Table.{table_number}
 use Rattle.service.specs.declared.Service.{Service}
-use Rattle.service.specs.declared.Characters.TheVariants.{Fit}
-use Rattle.service.specs.Service.{among, characters_of}
+use Rattle.service.specs.Service.{Fit, among, characters_of}
 use Rattle.segments.specs.SegmentList.{segments_from, start_at, end_at}
 use Rattle.interchange.specs.declared.Refusal.{Refusal}
-use Rattle.interchange.specs.declared.Opening.TheVariants as o
-use Rattle.interchange.specs.declared.Closing.{Closing}
+use Rattle.interchange.specs.Answers as o
+use Rattle.interchange.specs.Answers.{Closing}
 use Rattle.interchange.specs.Opened.{OpenedAs}
 use Rattle.interchange.specs.Closed.{ClosedAs}
 use Rattle.lent.specs.Lists.{Lists}
 use Rattle.report.specs.declared.Counts.{Counts}
-use Rattle.report.specs.declared.Report.TheVariants as report
+use Rattle.report.specs.Answers as report
 use Rattle.report.specs.Reported.{Reported}
-use Rattle.walk.specs.declared.Walked.TheVariants as walked
+use Rattle.walk.specs.Steps as walked
 use Rattle.report.specs.Judged.{Judged}
 use Rattle.walk.specs.Walks.{between, Walks, Judges}
-use Rattle.rewrite.specs.declared.Rewriting.TheVariants as w
+use Rattle.rewrite.specs.Answers as w
 use Rattle.rewrite.specs.Plain.{rewriting_of, room_after}
 use Rattle.twineherald.specs.declared.ReportNumbers.{ReportNumbers}
 use Rattle.twineherald.specs.declared.StepNumbers.{StepNumbers}
 use Rattle.twineherald.specs.declared.RewritingNumbers.{RewritingNumbers}
 use Rattle.twineherald.specs.declared.ClosingNumbers.{ClosingNumbers}
-use Rattle.twineherald.specs.Numbers.{OpenedWith, ClosedWith, Stepped, Checked, Rewritten}
+use Rattle.twineherald.specs.Numbers.{closing_numbers, OpenedWith, ClosedWith, Stepped, Checked, Rewritten}
 use Rattle.twineherald.specs.Several.{numbers_of, Answered, SteppedEach}
 
 -- ---- the table's numbers by the call that gives them
@@ -46,20 +46,30 @@ by_closing = 1 ∷ 2 ∷ 3 ∷ 4 ∷ 5 ∷ 6 ∷ 7 ∷ []
 abbrev pub by_segment : List ℕ
 by_segment = 16 ∷ 17 ∷ 18 ∷ 20 ∷ 21 ∷ 22 ∷ 23 ∷ 24 ∷ 25 ∷ 26 ∷ 27 ∷ 28 ∷ 29 ∷ 30 ∷ 31 ∷ []
 
+-- a number of the table, a segment and an offset
+pub record Given : Type 0 where
+  pub number : ℕ
+  pub segment : ℕ
+  pub offset : ℕ
+
+-- what a refusal gives
+abbrev pub given_by : Refusal → Given
+given_by f = record { number = table_number f.number; segment = f.segment; offset = f.offset }
+
 -- ---- the table's last column
 -- "0, 0": one of these numbers, and no place
-pub record Nowhere (numbers : List ℕ) (f : Refusal) : Type 0 where
+pub record Nowhere (numbers : List ℕ) (f : Given) : Type 0 where
   pub number : among f.number numbers ≡ true
   pub segment : f.segment ≡ 0
   pub offset : f.offset ≡ 0
 
 -- a segment of the message, "UNH is 1", k others before it
-pub record SegmentOf (v : Service) (m : List ℕ) (f : Refusal) (k : ℕ) : Type 0 where
+pub record SegmentOf (v : Service) (m : List ℕ) (f : Given) (k : ℕ) : Type 0 where
   pub segment : f.segment ≡ suc k
   pub some : k < length (segments_from v m 0)
 
 -- the refusal of a message's bytes m, row by row
-pub data Tabled (v : Service) (m : List ℕ) (f : Refusal) : Type 0 where
+pub data Tabled (v : Service) (m : List ℕ) (f : Given) : Type 0 where
   -- 1, 2, 14: "0, 0"
   nowhere : Nowhere (1 ∷ 2 ∷ 14 ∷ []) f → Tabled v m f
   -- 10: "its segment, that byte"
@@ -72,7 +82,7 @@ pub data Tabled (v : Service) (m : List ℕ) (f : Refusal) : Type 0 where
   segment : (k : ℕ) → among f.number by_segment ≡ true → SegmentOf v m f k → f.offset ≡ start_at v m k → Tabled v m f
 
 -- the same, read by the service characters of an interchange that begins with h
-pub record TabledIn (h m : List ℕ) (f : Refusal) : Type 0 where
+pub record TabledIn (h m : List ℕ) (f : Given) : Type 0 where
   pub characters : Service
   pub una : ℕ
   pub fit : characters_of h ≡ Fit characters una
@@ -85,7 +95,7 @@ pub record Beyond (c : Counts) (x x' : Lists) : Type 0 where
   pub totals : drop c.orders x'.totals ≡ drop c.orders x.totals
 
 -- a refusal and counts as C receives them
-abbrev pub refusal_in : ReportNumbers → Refusal
+abbrev pub refusal_in : ReportNumbers → Given
 refusal_in y = record { number = y.number; segment = y.segment; offset = y.offset }
 
 abbrev pub counts_in : ReportNumbers → Counts
@@ -93,22 +103,24 @@ counts_in y = record { segments = y.segments; orders = y.orders; payments = y.pa
 
 pub record Refusals : Type 0 where
   -- interchange: open and close are lent nothing for output; closing has number 0 if nothing is wrong
-  pub opening : (s : List ℕ) (f : Refusal) → OpenedAs s (o.Refused f) → Nowhere by_opening f
-  pub closing : (s : List ℕ) (c : Closing) → ClosedAs s c → among c.number (0 ∷ by_closing) ≡ true
+  pub opening : (s : List ℕ) (f : Refusal) → OpenedAs s (o.Refused f) → Nowhere by_opening (given_by f)
+  pub closing : (s : List ℕ) (c : Closing) → ClosedAs s c → among (closing_numbers c).number (0 ∷ by_closing) ≡ true
+  -- "1 to 4 first, as opening does"
+  pub closing_refused : (s : List ℕ) (f : Refusal) → ClosedAs s (Err f) → Nowhere by_opening (given_by f)
   -- report: check
-  pub checking : (v : Service) (m : List ℕ) (x x' : Lists) (f : Refusal) → Reported v m x x' (report.Refused f) → Tabled v m f × (x' ≡ x)
+  pub checking : (v : Service) (m : List ℕ) (x x' : Lists) (f : Refusal) → Reported v m x x' (report.Refused f) → Tabled v m (given_by f) × (x' ≡ x)
   pub check_beyond : (v : Service) (m : List ℕ) (x x' : Lists) (c : Counts) → Reported v m x x' (report.Accepted c) → Beyond c x x'
   -- judging, as if every list were long enough
-  pub judging : (v : Service) (m : List ℕ) (f : Refusal) → Judged v m (report.Refused f) → Tabled v m f
+  pub judging : (v : Service) (m : List ℕ) (f : Refusal) → Judged v m (report.Refused f) → Tabled v m (given_by f)
   -- walk: refused itself, or the found message is
-  pub walking : (b : List ℕ) (at : ℕ) (x x' : Lists) (f : Refusal) → Walks b at x x' (walked.Refused f) → Nowhere by_walking f × (x' ≡ x)
+  pub walking : (b : List ℕ) (at : ℕ) (x x' : Lists) (f : Refusal) → Walks b at x x' (walked.Refused f) → Nowhere by_walking (given_by f) × (x' ≡ x)
   pub walk_none : (b : List ℕ) (at : ℕ) (x x' : Lists) → Walks b at x x' walked.Nothing → x' ≡ x
-  pub walk_message : (b : List ℕ) (at a e : ℕ) (x x' : Lists) (f : Refusal) → Walks b at x x' (walked.Message a e (report.Refused f)) → TabledIn b (between b a e) f × (x' ≡ x)
+  pub walk_message : (b : List ℕ) (at a e : ℕ) (x x' : Lists) (f : Refusal) → Walks b at x x' (walked.Message a e (report.Refused f)) → TabledIn b (between b a e) (given_by f) × (x' ≡ x)
   pub walk_beyond : (b : List ℕ) (at a e : ℕ) (x x' : Lists) (c : Counts) → Walks b at x x' (walked.Message a e (report.Accepted c)) → Beyond c x x'
-  pub walk_judging : (b : List ℕ) (at : ℕ) (f : Refusal) → Judges b at (walked.Refused f) → Nowhere by_walking f
-  pub judge_message : (b : List ℕ) (at a e : ℕ) (f : Refusal) → Judges b at (walked.Message a e (report.Refused f)) → TabledIn b (between b a e) f
+  pub walk_judging : (b : List ℕ) (at : ℕ) (f : Refusal) → Judges b at (walked.Refused f) → Nowhere by_walking (given_by f)
+  pub judge_message : (b : List ℕ) (at a e : ℕ) (f : Refusal) → Judges b at (walked.Message a e (report.Refused f)) → TabledIn b (between b a e) (given_by f)
   -- rewrite
-  pub rewriting : (s o : List ℕ) (f : Refusal) → rewriting_of s (length o) ≡ w.Refused f → Nowhere by_rewriting f × (room_after s o ≡ o)
+  pub rewriting : (s o : List ℕ) (f : Refusal) → rewriting_of s (length o) ≡ w.Refused f → Nowhere by_rewriting (given_by f) × (room_after s o ≡ o)
   pub rewrite_beyond : (s o : List ℕ) (n : ℕ) → rewriting_of s (length o) ≡ w.Written n → drop n (room_after s o) ≡ drop n o
   -- the six calls for C, in which number 0 is no refusal; of the walk from several positions the call's own refusal, and each answer
   pub c_open : (b : List ℕ) (x : ℕ) → OpenedWith b x → among x (0 ∷ by_opening) ≡ true

@@ -3,9 +3,9 @@ use Rattle.std.specs.Prelude.{ℕ, ◌≡◌, List, [], ◌∷◌}
 use Rattle.service.specs.declared.Service.{Service}
 use Rattle.interchange.specs.Messages.{Extent, starts_at, ends_at, bytes_of}
 use Rattle.lent.specs.Lists.{Lists, Left}
-use Rattle.report.specs.declared.Report.{Report}
+use Rattle.report.specs.Answers.{Report}
 use Rattle.report.specs.Reported.{Reported}
-use Rattle.walk.specs.declared.Walked.TheVariants.{Message, Nothing}
+use Rattle.walk.specs.Steps.{Message, Nothing}
 use Rattle.walk.specs.Frame.{message, nothing, step_from}
 use Rattle.walk.specs.Walks.{Walks}
 

@@ -1,8 +1,7 @@
 -- W-203: "Several messages at once": what the contract of the call says, sentence by sentence.
 use Rattle.std.specs.Prelude.{ℕ, ◌≤◌, ◌<◌, ◌≡◌, List, [], ◌∷◌, length, get_or, drop}
 use Rattle.service.specs.declared.Service.{Service}
-use Rattle.service.specs.declared.Characters.TheVariants.{Fit}
-use Rattle.service.specs.Service.{characters_of}
+use Rattle.service.specs.Service.{Fit, characters_of}
 use Rattle.lent.specs.Lists.{Lists}
 use Rattle.walk.specs.Walks.{between}
 use Rattle.twineherald.specs.declared.StepNumbers.{StepNumbers}

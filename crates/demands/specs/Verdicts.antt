@@ -1,15 +1,15 @@
 -- "A message keeps its refusal number and segment (offsets may move)": what is told of a message, its offsets aside.
-use Rattle.std.specs.Prelude.{ℕ, ◌≡◌, List, [], ◌∷◌, map}
+use Rattle.std.specs.Prelude.{ℕ, ◌≡◌, List, [], ◌∷◌, map, Ok, Err}
+use Rattle.numbers.specs.Table.{table_number}
 use Rattle.service.specs.declared.Service.{Service}
 use Rattle.service.specs.Service.{plain_service}
 use Rattle.interchange.specs.Messages.{Extent, starts_at, ends_at, messages_of}
 use Rattle.interchange.specs.Envelope.{body_of}
 use Rattle.lent.specs.Lists.{Lists, Left}
 use Rattle.report.specs.declared.Counts.{Counts}
-use Rattle.report.specs.declared.Report.{Report}
-use Rattle.report.specs.declared.Report.TheVariants.{Accepted, Refused}
+use Rattle.report.specs.Answers.{Report}
 use Rattle.rewrite.specs.Plain.{rewritten}
-use Rattle.walk.specs.declared.Walked.TheVariants.{Message}
+use Rattle.walk.specs.Steps.{Message}
 use Rattle.walk.specs.Walks.{Walks}
 use Rattle.demands.specs.Runs.{Visit, Run}
 
@@ -19,8 +19,8 @@ pub data Verdict : Type 0 where
   refused : (number segment : ℕ) → Verdict
 
 abbrev pub verdict_by : Report → List ℕ → List ℕ → Verdict
-verdict_by (Accepted c) rows totals = accepted c rows totals
-verdict_by (Refused f) rows totals = refused f.number f.segment
+verdict_by (Ok c) rows totals = accepted c rows totals
+verdict_by (Err f) rows totals = refused (table_number f.number) f.segment
 
 abbrev pub verdict_of : Left Report → Verdict
 verdict_of g = verdict_by g.answer g.lists.rows g.lists.totals

@@ -5,8 +5,7 @@ use Rattle.values.specs.Text.{text}
 use Rattle.interchange.specs.declared.Refusal.{Refusal}
 use Rattle.lent.specs.Lists.{Lists, lists, Left}
 use Rattle.report.specs.declared.Counts.{Counts}
-use Rattle.report.specs.declared.Report.{Report}
-use Rattle.report.specs.declared.Report.TheVariants.{Accepted, Refused}
+use Rattle.report.specs.Answers.{Report, Accepted, Refused}
 use Rattle.report.specs.Reported.{room_of, Reported}
 use Rattle.cases.specs.MessageCases.{room, exchange, counted}
 use Rattle.demands.specs.Runs.{Visit, Run}

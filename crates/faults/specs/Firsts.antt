@@ -1,27 +1,41 @@
 -- The first of some places, and the fault that the lowest number with a place gives.
-use Rattle.std.specs.Prelude.{ℕ, Bool, true, false, leb}
-use Rattle.faults.specs.declared.First.{First}
-use Rattle.faults.specs.declared.First.TheVariants as first
+use Rattle.std.specs.Prelude.{ℕ, Bool, true, false, leb, Option, None, Some}
+use Rattle.numbers.specs.Table.{table_number}
 use Rattle.faults.specs.declared.Fault.{Fault}
-use Rattle.faults.specs.declared.Fault.TheVariants as fault
 
 -- the lesser of two places, by whether the first is not above the second
-abbrev pub lesser_by : Bool → ℕ → ℕ → First
-lesser_by true p q = first.At p
-lesser_by false p q = first.At q
+abbrev pub lesser_by : Bool → ℕ → ℕ → Option ℕ
+lesser_by true p q = Some p
+lesser_by false p q = Some q
 
 -- "the first segment": the lesser of two places, where there are two
-unfoldable pub lesser : First → First → First
-lesser first.None b = b
-lesser (first.At p) first.None = first.At p
-lesser (first.At p) (first.At q) = lesser_by (leb p q) p q
+unfoldable pub lesser : Option ℕ → Option ℕ → Option ℕ
+lesser None b = b
+lesser (Some p) None = Some p
+lesser (Some p) (Some q) = lesser_by (leb p q) p q
 
 -- the place where a rule does not hold
-abbrev pub place_unless : Bool → ℕ → First
-place_unless true at = first.None
-place_unless false at = first.At at
+abbrev pub place_unless : Bool → ℕ → Option ℕ
+place_unless true at = None
+place_unless false at = Some at
+
+-- a number that applies, and a segment
+pub record Told : Type 0 where
+  pub number : ℕ
+  pub segment : ℕ
+
+abbrev pub told : ℕ → ℕ → Told
+told n s = record { number = n; segment = s }
+
+abbrev pub fault_at : ℕ → ℕ → Option Told
+fault_at n s = Some (told n s)
+
+-- a fault as it is told
+abbrev pub told_of : Option Fault → Option Told
+told_of None = None
+told_of (Some f) = fault_at (table_number f.number) f.segment
 
 -- "The lowest number that applies is given": a number with a place stands before the faults of higher numbers
-abbrev pub number_first : ℕ → First → Fault → Fault
-number_first number first.None other = other
-number_first number (first.At p) other = fault.At number p
+abbrev pub number_first : ℕ → Option ℕ → Option Told → Option Told
+number_first number None other = other
+number_first number (Some p) other = fault_at number p

@@ -2,59 +2,46 @@
 #![tactic(auto)]
 
 ghost use Rattle.std.specs.Prelude.{◌≡◌};
-ghost use Rattle.faults.specs.Firsts.{lesser, place_unless, number_first};
+ghost use Rattle.numbers.specs.Table.{table_number};
+ghost use Rattle.faults.specs.Firsts.{lesser, place_unless, told_of, number_first};
 
-// Where a rule is first broken, as an offset from the message's first byte.
-#[derive(Clone, Copy)]
-pub enum First {
-    None,
-    At(usize),
-}
+use numbers::Number;
 
-#[derive(Clone, Copy)]
-pub enum Fault {
-    None,
-    // A number of the table, and the place.
-    At(u32, usize),
+// Why a message is refused, and the segment at fault, as its place among the message's.
+#[derive(Clone, Copy, Debug, PartialEq, Eq)]
+pub struct Fault {
+    pub number: Number,
+    pub segment: usize,
 }
 
 // The earlier of two places.
-#[tactic(auto, using(crate::specs::Laws::FirstsLaws::lesser_none, crate::specs::Laws::FirstsLaws::lesser_one, crate::specs::Laws::FirstsLaws::lesser_first, crate::specs::Laws::FirstsLaws::lesser_second))]
-pub fn earlier(a: First, b: First) -> First
+#[tactic(auto, unfolding(crate::specs::Firsts::lesser), using(crate::specs::Laws::FirstsLaws::lesser_min))]
+pub fn earlier(a: Option<usize>, b: Option<usize>) -> Option<usize>
     ensures { result ≡ lesser a b }
 {
-    match a {
-        First::None => b,
-        First::At(p) => match b {
-            First::None => a,
-            First::At(q) => { if p <= q { First::At(p) } else { First::At(q) } }
-        },
+    match (a, b) {
+        (Some(p), Some(q)) => Some(p.min(q)),
+        _ => a.or(b),
     }
 }
 
 // The place `at`, if the rule does not hold there.
-#[tactic(auto, using(crate::specs::Laws::FirstsLaws::unless_holds, crate::specs::Laws::FirstsLaws::unless_fails))]
-pub fn unless(holds: bool, at: usize) -> First
+pub fn unless(holds: bool, at: usize) -> Option<usize>
     ensures { result ≡ place_unless holds at }
 {
-    if holds { First::None } else { First::At(at) }
+    (!holds).then_some(at)
 }
 
 // The first place, where the rule was broken at `first` already or is broken at `at` now.
-#[tactic(auto, using(crate::specs::Laws::FirstsLaws::keep_by))]
-pub fn keep(first: First, holds: bool, at: usize) -> First
+pub fn keep(first: Option<usize>, holds: bool, at: usize) -> Option<usize>
     ensures { result ≡ lesser first (place_unless holds at) }
 {
     earlier(first, unless(holds, at))
 }
 
 // The fault of the number, if it has a place, before any other fault.
-#[tactic(auto, using(crate::specs::Laws::FirstsLaws::number_none, crate::specs::Laws::FirstsLaws::number_place))]
-pub fn before(number: u32, first: First, other: Fault) -> Fault
-    ensures { result ≡ number_first number first other }
+pub fn before(number: Number, first: Option<usize>, other: Option<Fault>) -> Option<Fault>
+    ensures { told_of result ≡ number_first (table_number number) first (told_of other) }
 {
-    match first {
-        First::None => other,
-        First::At(p) => Fault::At(number, p),
-    }
+    first.map(|segment| Fault { number, segment }).or(other)
 }

@@ -1,7 +1,9 @@
 -- Two texts whose segments have the same values, one by one, trailing empties aside: what the theorems on rewriting speak of.
 use Rattle.std.specs.Prelude.{ℕ, ◌≡◌, List, [], ◌∷◌}
 use Rattle.service.specs.declared.Service.{Service}
-use Rattle.segments.specs.SegmentList.{Piece, finished, segments_from}
+use Rattle.segments.specs.declared.Piece.{Piece}
+use Rattle.segments.specs.declared.Piece.TheVariants.{Finished as finished}
+use Rattle.segments.specs.SegmentList.{segments_from}
 use Rattle.parts.specs.Trimmed.{values_at}
 use Rattle.interchange.specs.Messages.{Extent, is_closed, bytes_of, ends_closed}
 

@@ -1,8 +1,12 @@
 -- Closing an interchange, as document 01's numbers 5 to 7 say.
 use Rattle.std.specs.Prelude.{ℕ, ◌≡◌, List}
+use Rattle.numbers.specs.declared.Number.{Number}
+use Rattle.numbers.specs.Table.{table_number}
+use Rattle.numbers.specs.Table.{number_told}
+use Rattle.std.specs.Prelude.{Option}
 use Rattle.service.specs.declared.Service.{Service}
 use Rattle.values.specs.Numbers.{NumberIs, value_in}
-use Rattle.interchange.specs.declared.Closing.{Closing}
+use Rattle.interchange.specs.Answers.{Closing}
 use Rattle.interchange.specs.Envelope.{message_count, stray_count, unz_at, closing_with, closing_without}
 use Rattle.interchange.specs.Opened.{OpenFault, Opened, Least}
 
@@ -22,5 +26,5 @@ pub data LeastOrNone (applies : ℕ → Type 0) (n : ℕ) : Type 0 where
 
 -- the answer of closing. "Closing and rewriting give 1 to 4 first, as opening does."
 pub data ClosedAs (s : List ℕ) : Closing → Type 0 where
-  unopened : (n : ℕ) → Least (OpenFault s) n → ClosedAs s (closing_without n)
-  closes : (v : Service) (first n : ℕ) → Opened s v first → LeastOrNone (CloseFault v s first) n → ClosedAs s (closing_with n v s first)
+  unopened : (n : Number) → Least (OpenFault s) (table_number n) → ClosedAs s (closing_without n)
+  closes : (v : Service) (first : ℕ) (n : Option Number) → Opened s v first → LeastOrNone (CloseFault v s first) (number_told n) → ClosedAs s (closing_with n v s first)

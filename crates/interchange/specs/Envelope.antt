@@ -1,15 +1,18 @@
 -- The first segment, the last one and those between them, as document 01, "Bytes to segments", says. Opened.antt and Closed.antt: opening and closing.
-use Rattle.std.specs.Prelude.{ℕ, List, [], ◌∷◌, map, Bool, false, ◌&&◌, length, drop, eqb, leb}
+use Rattle.std.specs.Prelude.{ℕ, Option, None, Some, List, [], ◌∷◌, map, Bool, false, ◌&&◌, length, drop, eqb, leb, Ok, Err}
+use Rattle.numbers.specs.Table.{table_number}
+use Rattle.numbers.specs.declared.Number.{Number}
 use Rattle.service.specs.declared.Service.{Service}
 use Rattle.service.specs.Tests.{if, last_of}
 use Rattle.segments.specs.Forms.Bytes.{past_breaks}
-use Rattle.segments.specs.SegmentList.{Piece, finished, unfinished, segments_from}
+use Rattle.segments.specs.declared.Piece.{Piece}
+use Rattle.segments.specs.declared.Piece.TheVariants.{Finished as finished, Unfinished as unfinished}
+use Rattle.segments.specs.SegmentList.{segments_from}
 use Rattle.values.specs.Text.{says}
 use Rattle.values.specs.Numbers.{value_in}
-use Rattle.interchange.specs.declared.Refusal.{Refusal}
-use Rattle.interchange.specs.declared.Opening.{Opening}
-use Rattle.interchange.specs.declared.Opening.TheVariants.{Opens, Refused}
-use Rattle.interchange.specs.declared.Closing.{Closing}
+use Rattle.interchange.specs.Answers.{Opening}
+pub use Rattle.interchange.specs.Answers.{refusal}
+use Rattle.interchange.specs.Answers.{Closing}
 use Rattle.interchange.specs.Messages.{tag_at, start_of, messages_of, strays_of}
 
 -- a reference has 1 to 14 bytes
@@ -41,14 +44,10 @@ ended v s l = last_unz v s false l
 unfoldable pub first_at : List ℕ → ℕ → ℕ
 first_at s una = if (eqb una 0) 0 (past_breaks una (drop una s))
 
--- a refusal at 0, 0
-abbrev pub refusal : ℕ → Refusal
-refusal n = record { number = n; segment = 0; offset = 0 }
-
 -- the table's number of each answer, 0 where the interchange opens
 abbrev pub opening_number : Opening → ℕ
-opening_number (Opens v first) = 0
-opening_number (Refused f) = f.number
+opening_number (Ok o) = 0
+opening_number (Err f) = table_number f.number
 
 -- ---- closing
 -- the segments after the first
@@ -74,10 +73,15 @@ stray_count v s first = length (strays_of v s false (body_of v s first))
 abbrev pub unz_at : Service → List ℕ → ℕ → ℕ
 unz_at v s first = last_start (length s) (body_of v s first)
 
--- what closing gives: a number, with the messages and the strays
-abbrev pub closing_with : ℕ → Service → List ℕ → ℕ → Closing
-closing_with n v s first = record { number = n; messages = message_count v s first; strays = stray_count v s first }
+-- what closing gives: one of 5 to 7, or none, with the messages and the strays
+abbrev pub closing_with : Option Number → Service → List ℕ → ℕ → Closing
+closing_with n v s first = Ok (record { fault = n; messages = message_count v s first; strays = stray_count v s first })
 
--- of an interchange that does not open: the number alone
-abbrev pub closing_without : ℕ → Closing
-closing_without n = record { number = n; messages = 0; strays = 0 }
+-- of an interchange that does not open
+abbrev pub closing_without : Number → Closing
+closing_without n = Err (refusal n)
+
+-- how many messages closing tells, and how many strays
+abbrev pub messages_told : Closing → ℕ
+messages_told (Ok c) = c.messages
+messages_told (Err f) = 0

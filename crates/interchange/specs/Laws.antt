@@ -10,9 +10,9 @@ pub mod NearLaws
 pub mod OpenLaws
 pub mod OpenedLaws
 pub mod OwnLaws
+pub mod StepLaws
 pub mod SurveyLaws
 pub mod TagLaws
-pub mod TellsLaws
 pub mod WalkLaws
 pub mod WalkTheorems
 pub mod WithinLaws

@@ -1,3 +1,5 @@
+pub mod Answers
+pub mod Finds
 pub mod Messages
 pub mod Envelope
 pub mod Opened

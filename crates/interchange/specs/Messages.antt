@@ -2,20 +2,21 @@
 use Rattle.std.specs.Prelude.{ℕ, ◌+◌, ◌-◌, List, [], ◌∷◌, Bool, true, false, length, take, drop, eqb, ltb}
 use Rattle.service.specs.declared.Service.{Service}
 use Rattle.service.specs.Tests.{if, is_empty}
-use Rattle.segments.specs.SegmentList.{Piece, finished, unfinished, segments_from, segments_after, all_finished}
+use Rattle.segments.specs.declared.Piece.{Piece}
+use Rattle.segments.specs.declared.Piece.TheVariants.{Finished as finished, Unfinished as unfinished}
+use Rattle.segments.specs.SegmentList.{segments_from, segments_after, all_finished}
 pub use Rattle.segments.specs.SegmentList.{start_of}
 use Rattle.values.specs.Numbers.{value_from}
 use Rattle.values.specs.Text.{says}
-use Rattle.interchange.specs.declared.Found.{Found}
-use Rattle.interchange.specs.declared.Found.TheVariants as found
+use Rattle.interchange.specs.Answers.{Found}
+use Rattle.interchange.specs.Finds as found
+-- what a segment is to the envelope: UNH, UNT, the end UNZ, any other, or unfinished
+use Rattle.interchange.specs.declared.Kind.{Kind}
+use Rattle.interchange.specs.declared.Kind.TheVariants.{Head as head, Trailer as trailer, Last as last, Other as other, Cut as cut}
 
 -- "its tag is the first component's value": the tag of the segment that begins at i
 unfoldable pub tag_at : Service → List ℕ → ℕ → List ℕ
 tag_at v s i = value_from v i s
-
--- what a segment is to the envelope: UNH, UNT, the end UNZ, any other, or unfinished
-pub data Kind : Type 0 where
-  head trailer last other cut : Kind
 
 -- "UNZ counts as the end only if nothing but CR and LF follows it. A UNZ elsewhere is an ordinary segment."
 abbrev pub kind_by : List ℕ → Bool → Kind

@@ -1,11 +1,13 @@
 -- Opening an interchange, as document 01's numbers 1 to 4 say.
 use Rattle.std.specs.Prelude.{ℕ, ◌≤◌, ◌<◌, ◌≡◌, List, true, false, length}
+use Rattle.numbers.specs.declared.Number.{Number}
+use Rattle.numbers.specs.Table.{table_number}
 use Rattle.service.specs.declared.Service.{Service}
-use Rattle.service.specs.declared.Characters.TheVariants.{Fit, Unfit}
+use Rattle.service.specs.Service.{Fit, Unfit}
 use Rattle.service.specs.Service.{characters_of}
 use Rattle.segments.specs.SegmentList.{segments_from}
-use Rattle.interchange.specs.declared.Opening.{Opening}
-use Rattle.interchange.specs.declared.Opening.TheVariants.{Opens, Refused}
+use Rattle.interchange.specs.Answers.{Opening}
+use Rattle.interchange.specs.Answers.{Opens, Refused}
 use Rattle.interchange.specs.Envelope.{headed, ended, first_at, refusal}
 
 -- the numbers that apply to an interchange; without service characters it has no segments, to which 3 or 4 might apply
@@ -37,4 +39,4 @@ pub record Least (applies : ℕ → Type 0) (n : ℕ) : Type 0 where
 -- "Numbers 1 to 4 are found in that order by opening"
 pub data OpenedAs (s : List ℕ) : Opening → Type 0 where
   accepted : (v : Service) (first : ℕ) → Opened s v first → OpenedAs s (Opens v first)
-  refused : (n : ℕ) → Least (OpenFault s) n → OpenedAs s (Refused (refusal n))
+  refused : (n : Number) → Least (OpenFault s) (table_number n) → OpenedAs s (Refused (refusal n))

@@ -2,7 +2,7 @@
 use Rattle.std.specs.Prelude.{ℕ, ◌≡◌, List, [], ◌∷◌}
 use Rattle.service.specs.declared.Service.{Service}
 use Rattle.segments.specs.SegmentList.{segments_after}
-use Rattle.interchange.specs.declared.Found.TheVariants as found
+use Rattle.interchange.specs.Finds as found
 use Rattle.interchange.specs.Messages.{Extent, starts_at, ends_at, messages_of, found_from}
 
 -- all messages of a text, read from its first byte

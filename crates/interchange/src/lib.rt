@@ -1,70 +1,80 @@
 // The envelope of an interchange, and where its messages lie.
 #![tactic(auto)]
 
-ghost use Rattle.std.specs.Prelude.{◌≡◌};
+ghost use Rattle.std.specs.Prelude.{◌≡◌, ◌≤◌};
+ghost use Rattle.service.specs.Tests.{is_empty};
+ghost use Rattle.segments.specs.Left.{segments_left};
 ghost use Rattle.segments.specs.SegmentList.{segments_from};
 ghost use Rattle.values.specs.Forms.Values.{code_of};
-ghost use Rattle.interchange.specs.Messages.{tag_at, found_from};
-ghost use Rattle.interchange.specs.Envelope.{is_reference, is_header, ended, first_at, refusal, closing_without};
+ghost use Rattle.interchange.specs.Messages.{tag_at, kind_by, kind_of, past_of, found_from};
+ghost use Rattle.interchange.specs.Envelope.{is_reference, is_header, is_unz, ended, first_at, body_of};
+ghost use Rattle.interchange.specs.Answers.{refusal};
 ghost use Rattle.interchange.specs.Opened.{OpenedAs};
 ghost use Rattle.interchange.specs.Closed.{ClosedAs};
-ghost use Rattle.interchange.specs.Forms.Answers.{opened_by, closing_number, closing_by};
-ghost use Rattle.interchange.specs.Forms.Kinds.{Tells, is_end};
+ghost use Rattle.interchange.specs.Forms.Answers.{read_by, header_by, opened_by, closing_fault, closing_by};
 ghost use Rattle.interchange.specs.Forms.Found.{end_found};
-ghost use Rattle.interchange.specs.Forms.Survey.{Surveyed, past_at};
+ghost use Rattle.interchange.specs.Forms.Survey.{survey_of};
 
-use segments::Segment;
+use numbers::Number;
+use segments::{Piece, Segments, Text};
 use service::{Characters, Service};
 use values::codes;
 
 // The most bytes of an interchange.
 pub const MOST: usize = 1048576;
 
-// A number of the table, a segment (the UNH is 1) and an offset from the UNH's first byte.
-#[derive(Clone, Copy)]
+// A case of the table, a segment (the UNH is 1) and an offset from the UNH's first byte.
+#[derive(Clone, Copy, Debug, PartialEq, Eq, Hash)]
 pub struct Refusal {
-    pub number: u32,
+    pub number: Number,
     pub segment: u32,
     pub offset: u32,
 }
 
-#[derive(Clone, Copy)]
-pub enum Opening {
-    // The service characters, and where the UNB begins.
-    Opens(Service, usize),
-    Refused(Refusal),
+// An interchange that opens: the service characters, and where the UNB begins.
+#[derive(Clone, Copy, Debug, PartialEq, Eq)]
+pub struct Opened {
+    pub service: Service,
+    pub first: usize,
 }
 
-#[derive(Clone, Copy)]
-pub enum Found {
-    // A message, from its first byte up to but excluding the second place.
-    Message(usize, usize),
-    // No message is left.
-    Nothing,
-    // A segment that is not finished comes first.
-    Unfinished,
+// A message, from its first byte up to but excluding its end.
+#[derive(Clone, Copy, Debug, PartialEq, Eq, Hash)]
+pub struct Span {
+    pub start: usize,
+    pub end: usize,
 }
 
-#[derive(Clone, Copy)]
-pub struct Survey {
+// What a segment is to the envelope: a UNH, a UNT, the end UNZ, any other, or unfinished.
+// Public, for the proofs on messages in crates above name it.
+#[derive(Clone, Copy, Debug, PartialEq, Eq)]
+pub enum Kind {
+    Head,
+    Trailer,
+    Last,
+    Other,
+    Cut,
+}
+
+// What is counted up to the end UNZ.
+#[derive(Clone, Copy, Debug, PartialEq, Eq)]
+struct Survey {
     pub messages: u64,
     pub strays: u64,
     // Where the end UNZ begins.
     pub end: usize,
-    // Whether there is one.
-    pub ended: bool,
 }
 
-// What closing says: 0 or the number of a refusal, with the messages and the strays.
-#[derive(Clone, Copy)]
+// What closing says: one of 5 to 7, if one applies, with the messages and the strays.
+#[derive(Clone, Copy, Debug, PartialEq, Eq, Hash)]
 pub struct Closing {
-    pub number: u32,
+    pub fault: Option<Number>,
     pub messages: u64,
     pub strays: u64,
 }
 
 // A refusal that speaks of the whole interchange.
-pub fn refuse(number: u32) -> Refusal
+pub fn refuse(number: Number) -> Refusal
     ensures { result ≡ refusal number }
 {
     Refusal {
@@ -76,320 +86,317 @@ pub fn refuse(number: u32) -> Refusal
 
 // The tag of the segment that begins at `at`, as a code.
 #[tactic(auto, unfolding(crate::specs::Messages::tag_at))]
-fn tag_at(s: &[u8], at: usize, v: Service) -> u64
-    ensures { result ≡ code_of (tag_at v s.now at) }
+fn tag_at(text: Text<'_>, at: usize) -> u64
+    ensures { result ≡ code_of (tag_at text.entry.service text.entry.bytes.now at) }
 {
-    values::code_at(s, at, v)
+    values::code_at(text, at)
 }
 
 // Whether a length is 1 to 14.
-#[tactic(auto, using(crate::specs::Laws::OpenLaws::reference_none, crate::specs::Laws::OpenLaws::reference_some))]
+#[tactic(auto, unfolding(crate::specs::Envelope::is_reference))]
 pub fn is_reference(n: usize) -> bool
     ensures { result ≡ is_reference n }
 {
-    if n < 1 {
-        return false;
-    }
-    n <= 14
+    n >= 1 && n <= 14
 }
 
 // Whether the segment at `at` is a UNB of syntax version 3 with a control reference.
-#[tactic(auto, using(crate::specs::Laws::OpenLaws::header_tag, crate::specs::Laws::OpenLaws::header_version, crate::specs::Laws::OpenLaws::header_reference))]
-fn is_header(s: &[u8], at: usize, v: Service) -> bool
-    ensures { result ≡ is_header v s.now at }
+#[tactic(auto, using(crate::specs::Laws::TagLaws::unb_code, crate::specs::Laws::TagLaws::three_code), unfolding(crate::specs::Envelope::is_header))]
+fn is_header(text: Text<'_>, at: usize) -> bool
+    ensures { result ≡ is_header text.entry.service text.entry.bytes.now at }
 {
-    if tag_at(s, at, v) == codes::UNB {
-        if values::code_in(s, at, v, 1, 1) == codes::THREE {
-            return is_reference(values::length_in(s, at, v, 5, 0));
-        }
-    }
-    false
+    tag_at(text, at) == codes::UNB
+        && values::code_in(text, at, 1, 1) == codes::THREE
+        && is_reference(values::length_in(text, at, 5, 0))
 }
 
 // Where one of the last segments begins, or `at`: a terminator with no release just before it ends a segment, whatever stands before.
 #[tactic(auto, using(crate::specs::Laws::NearLaws::near))]
-fn near_end(s: &[u8], at: usize, v: Service) -> usize
-    ensures { ended v s.now (segments_from v s.now at) ≡ ended v s.now (segments_from v s.now result) }
+fn near_end(text: Text<'_>, at: usize) -> usize
+    ensures { ended text.entry.service text.entry.bytes.now (segments_from text.entry.service text.entry.bytes.now at) ≡ ended text.entry.service text.entry.bytes.now (segments_from text.entry.service text.entry.bytes.now result) }
 {
-    if s.len() < 2 {
-        return at;
-    }
-    let mut i = s.len() - 1;
-    while at < i {
-        if s[i] == v.terminator {
-            if s[i - 1] != v.release {
-                let next = segments::skip_breaks(s, i + 1);
-                if next < s.len() {
-                    return next;
-                }
+    for i in (at.saturating_add(1)..text.bytes.len()).rev() {
+        if text.bytes[i] == text.service.terminator && text.bytes[i - 1] != text.service.release {
+            let next = segments::skip_breaks(text.bytes, i + 1);
+            if next < text.bytes.len() {
+                return next;
             }
         }
-        i -= 1;
     }
     at
 }
 
-// Whether the last of the segments from `at` on is a finished UNZ.
-#[tactic(auto, using(segments::specs::Laws::SegmentsLaws::less_segment, crate::specs::Laws::OpenLaws::unz_done, crate::specs::Laws::OpenLaws::unz_cut, crate::specs::Laws::OpenLaws::unz_on))]
-fn ends_with_unz(s: &[u8], at: usize, v: Service) -> bool
-    ensures { result ≡ ended v s.now (segments_from v s.now at) }
+// Whether a segment is a finished UNZ.
+#[tactic(auto, using(crate::specs::Laws::TagLaws::unz_code))]
+fn is_unz(text: Text<'_>, piece: Piece) -> bool
+    ensures { result ≡ is_unz text.entry.service text.entry.bytes.now piece }
 {
-    let mut i = near_end(s, at, v);
-    let mut last = false;
-    loop {
-        let g = segments::segment_at(s, i, v);
-        match g {
-            Segment::Finished(_, next) => {
-                last = tag_at(s, i, v) == codes::UNZ;
-                i = next;
-            }
-            Segment::Unfinished => {
-                return false;
-            }
-            Segment::Nothing => {
-                return last;
-            }
-        }
+    match piece {
+        Piece::Finished(at, _) => tag_at(text, at) == codes::UNZ,
+        Piece::Unfinished(_, _) => false,
+    }
+}
+
+// Whether the last of the segments from `at` on is a finished UNZ.
+fn ends_with_unz(text: Text<'_>, at: usize) -> bool
+    ensures { result ≡ ended text.entry.service text.entry.bytes.now (segments_from text.entry.service text.entry.bytes.now at) }
+{
+    // `match` and no `is_some_and`: a closure would need the clause of `is_unz` written on it once more.
+    match text.segments(near_end(text, at)).last() {
+        Some(piece) => is_unz(text, piece),
+        None => false,
     }
 }
 
 // Where the first segment begins: after UNA and its breaks, or at the first byte.
-#[tactic(auto, using(crate::specs::Laws::OpenLaws::first_zero, crate::specs::Laws::OpenLaws::first_after))]
+#[tactic(auto, unfolding(crate::specs::Envelope::first_at))]
 fn first_segment(s: &[u8], una: usize) -> usize
     ensures { result ≡ first_at s.now una }
 {
     if una == 0 {
-        return 0;
+        0
+    } else {
+        segments::skip_breaks(s, una)
     }
-    segments::skip_breaks(s, una)
+}
+
+// Where the UNB begins.
+#[tactic(auto, using(crate::specs::Laws::OpenLaws::header_found, crate::specs::Laws::OpenLaws::header_missed))]
+fn header_of(text: Text<'_>, una: usize) -> Result<usize, Refusal>
+    ensures { result ≡ header_by text.entry.service text.entry.bytes.now (first_at text.entry.bytes.now una) }
+{
+    let first = first_segment(text.bytes, una);
+    if is_header(text, first) {
+        Ok(first)
+    } else {
+        Err(refuse(Number::Header))
+    }
+}
+
+// The service characters that the bytes are read by: 1 if they are too many for an interchange, 2 if the characters don't fit.
+#[tactic(auto, using(crate::specs::Laws::OpenLaws::read_long, crate::specs::Laws::OpenLaws::read_unfit, crate::specs::Laws::OpenLaws::read_fit))]
+pub fn characters_of(s: &[u8]) -> Result<Characters, Refusal>
+    ensures { result ≡ read_by s.now }
+{
+    if MOST < s.len() {
+        return Err(refuse(Number::TooLong));
+    }
+    service::characters_of(s).ok_or(refuse(Number::Characters))
 }
 
 #[tactic(auto, using(crate::specs::Laws::OpenLaws::open_headless, crate::specs::Laws::OpenLaws::open_endless, crate::specs::Laws::OpenLaws::open_whole))]
-fn open_with(s: &[u8], v: Service, una: usize) -> Opening
-    ensures { result ≡ opened_by v s.now (first_at s.now una) }
+fn open_with(text: Text<'_>, una: usize) -> Result<Opened, Refusal>
+    ensures { result ≡ opened_by text.entry.service text.entry.bytes.now (first_at text.entry.bytes.now una) }
 {
-    let first = first_segment(s, una);
-    if is_header(s, first, v) {
-        if ends_with_unz(s, first, v) {
-            return Opening::Opens(v, first);
-        }
-        return Opening::Refused(refuse(4));
+    let first = header_of(text, una)?;
+    if !ends_with_unz(text, first) {
+        return Err(refuse(Number::End));
     }
-    Opening::Refused(refuse(3))
+    Ok(Opened {
+        service: text.service,
+        first,
+    })
 }
 
 // Whether the bytes are an interchange that opens.
-#[tactic(auto, using(crate::specs::Laws::OpenedLaws::is_opening, crate::specs::Laws::OpenLaws::open_long, crate::specs::Laws::OpenLaws::open_unfit, crate::specs::Laws::OpenLaws::open_fit))]
-pub fn open(s: &[u8]) -> Opening
+#[tactic(auto, using(crate::specs::Laws::OpenedLaws::is_opening, crate::specs::Laws::OpenLaws::open_unread, crate::specs::Laws::OpenLaws::open_read))]
+pub fn open(s: &[u8]) -> Result<Opened, Refusal>
     ensures { OpenedAs s.now result }
 {
-    if MOST < s.len() {
-        return Opening::Refused(refuse(1));
-    }
-    let c = service::characters_of(s);
-    match c {
-        Characters::Fit(v, una) => open_with(s, v, una),
-        Characters::Unfit => Opening::Refused(refuse(2)),
-    }
+    let named = characters_of(s)?;
+    let text = Text {
+        bytes: s,
+        service: named.service,
+    };
+    open_with(text, named.una)
 }
 
-// Tells whether the tag of the segment that begins at `at` is UNH, UNT or UNZ: its code, or 0 if its first byte is neither a U nor a release.
-#[tactic(auto, using(crate::specs::Laws::TellsLaws::tells_none, crate::specs::Laws::TellsLaws::tells_code))]
-fn service_tag(s: &[u8], at: usize, v: Service) -> u64
-    ensures { Tells (tag_at v s.now at) result }
+// What the finished segment at `at` is, before the segments `rest`. A tag whose first byte is neither a U nor a release is none of the three.
+#[tactic(auto, using(crate::specs::Laws::KindLaws::other_byte, crate::specs::Laws::KindLaws::tag_head, crate::specs::Laws::KindLaws::tag_trailer, crate::specs::Laws::KindLaws::tag_last, crate::specs::Laws::KindLaws::tag_other))]
+fn kind_at(rest: Segments<'_>, at: usize) -> Kind
+    ensures { result ≡ kind_by (tag_at rest.entry.text.service rest.entry.text.bytes.now at) (is_empty (segments_left rest.entry)) }
 {
-    if at < s.len() {
-        let b = s[at];
-        if b != b'U' {
-            if b != v.release {
-                return 0;
-            }
+    let text = rest.text;
+    if at < text.bytes.len() {
+        let b = text.bytes[at];
+        if b != b'U' && b != text.service.release {
+            return Kind::Other;
         }
     }
-    tag_at(s, at, v)
-}
-
-// Whether a UNZ whose segment the next one would follow at `next` is the end: nothing but breaks stands there.
-#[tactic(auto, using(crate::specs::Laws::KindLaws::end_unz, crate::specs::Laws::KindLaws::end_other))]
-fn is_end(s: &[u8], tag: u64, next: usize) -> bool
-    ensures { result ≡ is_end s.now tag next }
-{
-    if tag == codes::UNZ {
-        return s.len() <= next;
+    let tag = tag_at(text, at);
+    if tag == codes::UNH {
+        Kind::Head
+    } else if tag == codes::UNT {
+        Kind::Trailer
+    } else if tag == codes::UNZ && text.bytes.len() <= rest.at {
+        Kind::Last
+    } else {
+        Kind::Other
     }
-    false
 }
 
-// The end of the message that begins at `start`, sought from the segment at `from` on.
-#[tactic(auto, using(segments::specs::Laws::SegmentsLaws::less_segment, segments::specs::Laws::SegmentsLaws::segment_end_fits, crate::specs::Laws::FindLaws::end_nothing, crate::specs::Laws::FindLaws::end_cut, crate::specs::Laws::FindLaws::end_trailer, crate::specs::Laws::FindLaws::end_head, crate::specs::Laws::FindLaws::end_last, crate::specs::Laws::FindLaws::end_on))]
-fn find_end(s: &[u8], start: usize, from: usize, v: Service) -> Found
-    ensures { result ≡ end_found v s.now start (segments_from v s.now from) }
+// What a segment is to the envelope, before the segments `rest`. The loops that ask it call `next`, with no `for`: a segment is told by what is left after it, which a `for` keeps to itself.
+fn kind_of(rest: Segments<'_>, piece: Piece) -> Kind
+    ensures { result ≡ kind_of rest.entry.text.service rest.entry.text.bytes.now piece (segments_left rest.entry) }
 {
-    let mut i = from;
-    loop {
-        let g = segments::segment_at(s, i, v);
-        match g {
-            Segment::Finished(t, next) => {
-                let tag = service_tag(s, i, v);
-                if tag == codes::UNT {
-                    return Found::Message(start, t + 1);
-                }
-                if tag == codes::UNH {
-                    return Found::Message(start, i);
-                }
-                if is_end(s, tag, next) {
-                    return Found::Message(start, i);
-                }
-                i = next;
+    match piece {
+        Piece::Finished(at, _) => kind_at(rest, at),
+        Piece::Unfinished(_, _) => Kind::Cut,
+    }
+}
+
+// Where a segment ends, its terminator included.
+fn past(piece: Piece) -> usize
+    requires { past_of piece ≤ 18446744073709551615 }
+    ensures { result ≡ past_of piece }
+{
+    match piece {
+        Piece::Finished(_, t) => t + 1,
+        Piece::Unfinished(_, end) => end,
+    }
+}
+
+// The message that begins at `start`, its end sought among the segments `rest`.
+#[tactic(auto, using(crate::specs::Laws::FindLaws::ending_start, crate::specs::Laws::FindLaws::end_fits, crate::specs::Laws::FindLaws::end_trailer, crate::specs::Laws::FindLaws::end_head, crate::specs::Laws::FindLaws::end_last, crate::specs::Laws::FindLaws::end_cut, crate::specs::Laws::FindLaws::end_on, crate::specs::Laws::FindLaws::end_nothing))]
+fn find_end(start: usize, rest: Segments<'_>) -> Result<Option<Span>, Refusal>
+    ensures { result ≡ end_found rest.entry.text.service rest.entry.text.bytes.now start (segments_left rest.entry) }
+{
+    let mut segments = rest;
+    // `next` and no `for`: `kind_of` asks what is left after the segment.
+    while let Some(piece) = segments.next() {
+        match kind_of(segments, piece) {
+            Kind::Trailer => {
+                let end = past(piece);
+                return Ok(Some(Span { start, end }));
             }
-            Segment::Unfinished => {
-                return Found::Unfinished;
+            Kind::Head | Kind::Last => {
+                let end = piece.start();
+                return Ok(Some(Span { start, end }));
             }
-            Segment::Nothing => {
-                return Found::Message(start, s.len());
+            Kind::Cut => {
+                return Err(refuse(Number::End));
             }
+            Kind::Other => {}
         }
     }
+    let end = rest.text.bytes.len();
+    Ok(Some(Span { start, end }))
 }
 
 // The next message from the position `at` on, which is read as though a terminator stood just before.
-#[tactic(auto, using(segments::specs::Laws::SegmentsLaws::less_segment, crate::specs::Laws::FindLaws::found_start, crate::specs::Laws::FindLaws::find_nothing, crate::specs::Laws::FindLaws::find_cut, crate::specs::Laws::FindLaws::find_head, crate::specs::Laws::FindLaws::find_on))]
-pub fn find(s: &[u8], at: usize, v: Service) -> Found
-    ensures { result ≡ found_from v s.now at }
+#[tactic(auto, using(crate::specs::Laws::FindLaws::finding_start, crate::specs::Laws::FindLaws::find_head, crate::specs::Laws::FindLaws::find_cut, crate::specs::Laws::FindLaws::find_on, crate::specs::Laws::FindLaws::find_nothing))]
+pub fn find(text: Text<'_>, at: usize) -> Result<Option<Span>, Refusal>
+    ensures { result ≡ found_from text.entry.service text.entry.bytes.now at }
 {
-    let mut i = segments::skip_breaks(s, at);
-    loop {
-        let g = segments::segment_at(s, i, v);
-        match g {
-            Segment::Finished(_, next) => {
-                if service_tag(s, i, v) == codes::UNH {
-                    return find_end(s, i, next, v);
-                }
-                i = next;
+    let mut segments = text.segments(segments::skip_breaks(text.bytes, at));
+    // `next` and no `for`: `kind_of` asks what is left after the segment.
+    while let Some(piece) = segments.next() {
+        match kind_of(segments, piece) {
+            Kind::Head => {
+                return find_end(piece.start(), segments);
             }
-            Segment::Unfinished => {
-                return Found::Unfinished;
+            Kind::Cut => {
+                return Err(refuse(Number::End));
             }
-            Segment::Nothing => {
-                return Found::Nothing;
-            }
+            _ => {}
         }
     }
+    Ok(None)
 }
 
-// The messages and the strays among the segments from `at` on, up to the end UNZ.
-#[tactic(auto, using(segments::specs::Laws::SegmentsLaws::less_segment, segments::specs::Laws::SegmentsLaws::segment_count_fits, segments::specs::Laws::SegmentsLaws::segment_count, segments::specs::Laws::SegmentsLaws::segment_keep, crate::specs::Laws::SurveyLaws::far_keep, crate::specs::Laws::SurveyLaws::count_last, crate::specs::Laws::SurveyLaws::stray_last, crate::specs::Laws::SurveyLaws::stop_last, crate::specs::Laws::SurveyLaws::count_head, crate::specs::Laws::SurveyLaws::stray_head, crate::specs::Laws::SurveyLaws::stop_head, crate::specs::Laws::SurveyLaws::count_done, crate::specs::Laws::SurveyLaws::stray_done, crate::specs::Laws::SurveyLaws::stop_done, crate::specs::Laws::EndedLaws::ended_done, crate::specs::Laws::EndedLaws::ended_last, crate::specs::Laws::EndedLaws::ended_on, crate::specs::Laws::SurveyLaws::count_on, crate::specs::Laws::SurveyLaws::stray_inside, crate::specs::Laws::SurveyLaws::stop_on, crate::specs::Laws::SurveyLaws::stray_outside))]
-fn survey_of(s: &[u8], at: usize, v: Service) -> Survey
-    ensures { Surveyed v s.now at result }
+// The segments after the one that begins at `at`.
+#[tactic(auto, using(crate::specs::Laws::SurveyLaws::body_left))]
+fn after<'a>(text: Text<'a>, at: usize) -> Segments<'a>
+    ensures left { segments_left result ≡ body_of text.entry.service text.entry.bytes.now at }
+    ensures text { result.text ≡ text.entry }
 {
-    let mut i = at;
+    let mut segments = text.segments(at);
+    segments.next();
+    segments
+}
+
+// The messages and the strays among the segments `rest`, up to the end UNZ. Without one it is 4.
+#[tactic(auto, using(crate::specs::Laws::SurveyLaws::survey_start, crate::specs::Laws::SurveyLaws::survey_fits, crate::specs::Laws::SurveyLaws::survey_head, crate::specs::Laws::SurveyLaws::survey_last, crate::specs::Laws::SurveyLaws::survey_cut, crate::specs::Laws::SurveyLaws::survey_trailer, crate::specs::Laws::SurveyLaws::survey_other, crate::specs::Laws::SurveyLaws::survey_stray_trailer, crate::specs::Laws::SurveyLaws::survey_stray, crate::specs::Laws::SurveyLaws::survey_nothing))]
+fn survey_of(rest: Segments<'_>) -> Result<Survey, Refusal>
+    ensures { result ≡ survey_of rest.entry.text.service rest.entry.text.bytes.now (segments_left rest.entry) }
+{
+    let mut segments = rest;
     let mut inside = false;
     let mut messages: u64 = 0;
     let mut strays: u64 = 0;
-    loop {
-        let g = segments::segment_at(s, i, v);
-        let Segment::Finished(_, next) = g else {
-            return Survey {
-                messages,
-                strays,
-                end: i,
-                ended: false,
-            };
-        };
-        let tag = service_tag(s, i, v);
-        if is_end(s, tag, next) {
-            return Survey {
-                messages,
-                strays,
-                end: i,
-                ended: true,
-            };
-        }
-        if tag == codes::UNH {
-            messages += 1;
-            inside = true;
-        } else if inside {
-            inside = tag != codes::UNT;
-        } else {
-            strays += 1;
-        }
-        i = next;
-    }
-}
-
-// What the UNZ at `end` says against what was found, and against the UNB at `first`.
-#[tactic(auto, using(crate::specs::Laws::CloseLaws::closing_count, crate::specs::Laws::CloseLaws::closing_reference, crate::specs::Laws::CloseLaws::closing_strays, crate::specs::Laws::CloseLaws::closing_well))]
-fn closing_number(s: &[u8], first: usize, found: Survey, v: Service) -> u32
-    ensures { result ≡ closing_number v s.now first found.end found.messages found.strays }
-{
-    let end = found.end;
-    if values::number_is(s, end, v, 1, 0, found.messages) {
-        if values::same_in(s, first, v, 5, 0, end, 2, 0) {
-            if found.strays == 0 {
-                return 0;
+    // `next` and no `for`: `kind_of` asks what is left after the segment.
+    while let Some(piece) = segments.next() {
+        match kind_of(segments, piece) {
+            Kind::Head => {
+                messages += 1;
+                inside = true;
             }
-            return 7;
+            Kind::Trailer => {
+                if inside {
+                    inside = false;
+                } else {
+                    strays += 1;
+                }
+            }
+            Kind::Other => {
+                if !inside {
+                    strays += 1;
+                }
+            }
+            Kind::Last => {
+                let end = piece.start();
+                return Ok(Survey {
+                    messages,
+                    strays,
+                    end,
+                });
+            }
+            Kind::Cut => {
+                return Err(refuse(Number::End));
+            }
         }
-        return 6;
     }
-    5
+    Err(refuse(Number::End))
 }
 
-// The closing of an interchange that does not open.
-fn unopened(number: u32) -> Closing
-    ensures { result ≡ closing_without number }
+// What the UNZ says against what was found, and against the UNB at `first`.
+#[tactic(auto, using(crate::specs::Laws::CloseLaws::closing_count, crate::specs::Laws::CloseLaws::closing_reference, crate::specs::Laws::CloseLaws::closing_strays, crate::specs::Laws::CloseLaws::closing_well))]
+fn closing_fault(text: Text<'_>, first: usize, found: Survey) -> Option<Number>
+    ensures { result ≡ closing_fault text.entry.service text.entry.bytes.now first found.end found.messages found.strays }
 {
-    Closing {
-        number,
-        messages: 0,
-        strays: 0,
+    if !values::number_is(text, found.end, 1, 0, found.messages) {
+        Some(Number::Count)
+    } else if !values::same_in(text, first, 5, 0, found.end, 2, 0) {
+        Some(Number::Reference)
+    } else if found.strays != 0 {
+        Some(Number::Strays)
+    } else {
+        None
     }
 }
 
 #[tactic(auto, using(crate::specs::Laws::CloseLaws::close_headless, crate::specs::Laws::CloseLaws::close_endless, crate::specs::Laws::CloseLaws::close_whole))]
-fn close_with(s: &[u8], v: Service, una: usize) -> Closing
-    ensures { result ≡ closing_by s.now (opened_by v s.now (first_at s.now una)) }
+fn close_with(text: Text<'_>, una: usize) -> Result<Closing, Refusal>
+    ensures { result ≡ closing_by text.entry.bytes.now (opened_by text.entry.service text.entry.bytes.now (first_at text.entry.bytes.now una)) }
 {
-    let first = first_segment(s, una);
-    if is_header(s, first, v) {
-        let found = survey_of(s, past(s, first, v), v);
-        if found.ended {
-            let number = closing_number(s, first, found, v);
-            return Closing {
-                number,
-                messages: found.messages,
-                strays: found.strays,
-            };
-        }
-        return unopened(4);
-    }
-    unopened(3)
+    let first = header_of(text, una)?;
+    let found = survey_of(after(text, first))?;
+    Ok(Closing {
+        fault: closing_fault(text, first, found),
+        messages: found.messages,
+        strays: found.strays,
+    })
 }
 
 // Counts the messages and the strays, and compares the UNZ with them and with the UNB: one walk over the segments, which also finds 4.
-#[tactic(auto, using(crate::specs::Laws::ClosingLaws::is_closing, crate::specs::Laws::CloseLaws::close_long, crate::specs::Laws::CloseLaws::close_unfit, crate::specs::Laws::CloseLaws::close_fit))]
-pub fn close(s: &[u8]) -> Closing
+#[tactic(auto, using(crate::specs::Laws::ClosingLaws::is_closing, crate::specs::Laws::CloseLaws::close_unread, crate::specs::Laws::CloseLaws::close_read))]
+pub fn close(s: &[u8]) -> Result<Closing, Refusal>
     ensures { ClosedAs s.now result }
 {
-    if MOST < s.len() {
-        return unopened(1);
-    }
-    let c = service::characters_of(s);
-    match c {
-        Characters::Fit(v, una) => close_with(s, v, una),
-        Characters::Unfit => unopened(2),
-    }
-}
-
-// Where the segment after the one at `at` begins, or the end of the bytes.
-#[tactic(auto, using(crate::specs::Laws::SurveyLaws::past_finished, crate::specs::Laws::SurveyLaws::past_unfinished, crate::specs::Laws::SurveyLaws::past_nothing))]
-fn past(s: &[u8], at: usize, v: Service) -> usize
-    ensures { result ≡ past_at v s.now at }
-{
-    let g = segments::segment_at(s, at, v);
-    match g {
-        Segment::Finished(_, next) => next,
-        Segment::Unfinished => s.len(),
-        Segment::Nothing => s.len(),
-    }
+    let named = characters_of(s)?;
+    let text = Text {
+        bytes: s,
+        service: named.service,
+    };
+    close_with(text, named.una)
 }

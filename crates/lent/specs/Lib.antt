@@ -1,4 +1,5 @@
 pub mod Lists
+pub mod Lent
 pub mod Over
 pub mod Forms
 pub mod Laws

@@ -4,14 +4,22 @@
 ghost use Rattle.std.specs.Prelude.{◌≡◌, ◌%◌, [], ◌∷◌, length, set};
 ghost use Rattle.lent.specs.Forms.Puts.{Puts, past_one};
 
-// A number that fits 16 bits.
+// The lists that a caller lends: for the row and the start of each segment, and for the total of each order.
+#[derive(Drop)]
+pub struct Lists<'a> {
+    pub rows: &'a mut [u16],
+    pub starts: &'a mut [u32],
+    pub totals: &'a mut [u64],
+}
+
+// A number that fits 16 bits: the remainder, since `as` alone is refused where bits may be lost.
 pub fn low16(x: usize) -> u16
     ensures { result ≡ x % 65536 }
 {
     (x % 65536) as u16
 }
 
-// A number that fits 32 bits.
+// A number that fits 32 bits: the remainder likewise. Two functions and no generic one: std has no trait for a remainder.
 pub fn low32(x: usize) -> u32
     ensures { result ≡ x % 4294967296 }
 {

@@ -1,9 +1,9 @@
 -- The lines of the report program, as document 01, "Cases", says.
-use Rattle.std.specs.Prelude.{ℕ, suc, zero, ◌+◌, ◌/◌, ◌%◌, ◌≡◌, cond, List, [], ◌∷◌, ◌++◌, length, ltb, leb}
+use Rattle.std.specs.Prelude.{ℕ, suc, zero, ◌+◌, ◌/◌, ◌%◌, ◌≡◌, cond, List, [], ◌∷◌, ◌++◌, length, ltb, leb, Ok, Err}
+use Rattle.numbers.specs.Table.{table_number}
 use Rattle.lent.specs.Over.{over}
 use Rattle.values.specs.Text.{text}
-use Rattle.report.specs.declared.Report.{Report}
-use Rattle.report.specs.declared.Report.TheVariants.{Accepted, Refused}
+use Rattle.report.specs.Answers.{Report}
 
 -- the digits "0" to "9" as bytes
 abbrev pub digit : ℕ → ℕ
@@ -30,8 +30,8 @@ line (w ∷ l) = w ++ spaced l
 
 -- "MSG: place, NO, number, segment, offset; or place, OK, segments, orders, payments."
 abbrev pub message_line : ℕ → Report → List ℕ
-message_line place (Refused f) = line (text "MSG" ∷ decimal place ∷ text "NO" ∷ decimal f.number ∷ decimal f.segment ∷ decimal f.offset ∷ [])
-message_line place (Accepted c) = line (text "MSG" ∷ decimal place ∷ text "OK" ∷ decimal c.segments ∷ decimal c.orders ∷ decimal c.payments ∷ [])
+message_line place (Err f) = line (text "MSG" ∷ decimal place ∷ text "NO" ∷ decimal (table_number f.number) ∷ decimal f.segment ∷ decimal f.offset ∷ [])
+message_line place (Ok c) = line (text "MSG" ∷ decimal place ∷ text "OK" ∷ decimal c.segments ∷ decimal c.orders ∷ decimal c.payments ∷ [])
 
 -- "END: messages, accepted, strays, closing number (0 for none)."
 abbrev pub end_line : ℕ → ℕ → ℕ → ℕ → List ℕ

@@ -2,30 +2,30 @@
 #![tactic(auto)]
 
 ghost use Rattle.std.specs.Prelude.{◌≡◌, ◌≤◌, ◌<◌, length};
-ghost use Rattle.lent.specs.Lists.{lists};
+ghost use Rattle.lent.specs.Lent.{lent, SameLists};
 ghost use Rattle.listing.specs.Listing.{lists_after};
 ghost use Rattle.listing.specs.Forms.Steps.{SegmentPut, TotalPut};
 
-use service::Service;
-use table::COLUMNS;
+use lent::Lists;
+use segments::Text;
+use table::Row;
 
-// The row and the start of a segment, written after those of `k` others; gives how many are written then.
+// The row and the start of a segment, written after those of `k` others.
 #[tactic(auto, using(crate::proofs::Segments::segment_put))]
-fn put_segment(at: usize, row: usize, k: usize, rows: &mut [u16], starts: &mut [u32]) -> usize
+fn put_segment(at: usize, row: usize, k: usize, rows: &mut [u16], starts: &mut [u32])
     requires k_in_bounds { k < length rows.old }
     requires k_in_bounds_2 { k < length starts.old }
-    ensures { SegmentPut at row k rows.old rows.new starts.old starts.new result }
+    ensures { SegmentPut at row k rows.old rows.new starts.old starts.new }
 {
     rows[k] = lent::low16(row);
     starts[k] = lent::low32(at);
-    k + 1
 }
 
-// The total of an order, if the segment at `at` is its MOA and fewer than `orders` are written, `n` so far; gives how many are written then.
+// The total of an order, if the segment at `at` is its MOA and fewer than `orders` are written, `n` so far; gives how many are written then. An amount without the form
+// counts 0.
 #[tactic(auto, using(crate::proofs::Totals::total_put, crate::specs::Forms::Steps::other, crate::specs::Forms::Steps::full))]
 fn put_total(
-    m: &[u8],
-    v: Service,
+    text: Text<'_>,
     at: usize,
     row: usize,
     n: usize,
@@ -33,52 +33,31 @@ fn put_total(
     totals: &mut [u64],
 ) -> usize
     requires { orders ≤ length totals.old }
-    ensures { TotalPut v m.now at row n orders totals.old totals.new result }
+    ensures { TotalPut text.entry.service text.entry.bytes.now at row n orders totals.old totals.new result }
 {
-    if row == paymul::ORDER_MOA {
-        if n < orders {
-            totals[n] = amounts::worth_at(m, v, at);
-            return n + 1;
-        }
+    if row == paymul::ORDER_MOA && n < orders {
+        totals[n] = amounts::worth_at(text, at);
+        return n + 1;
     }
     n
 }
 
 // The row on a table and the start of each of the first `segments` segments, and the total of each of the first `orders` orders among them; nothing where a list is too short.
-#[tactic(auto, using(crate::proofs::Segments::listing_first, crate::specs::Laws::ListingLaws::short_rows, crate::specs::Laws::ListingLaws::short_starts, crate::specs::Laws::ListingLaws::short_totals, crate::proofs::Segments::listing_room_rows, crate::proofs::Segments::listing_room_starts, crate::proofs::Segments::listing_room_totals, crate::proofs::Segments::listing_next, crate::proofs::Segments::listing_last, crate::proofs::Segments::listing_end))]
-pub fn put_lists(
-    m: &[u8],
-    v: Service,
-    t: &[[u8; COLUMNS]],
-    segments: usize,
-    orders: usize,
-    rows: &mut [u16],
-    starts: &mut [u32],
-    totals: &mut [u64],
-)
-    ensures { lists rows.new starts.new totals.new ≡ lists_after t.now v m.now segments orders (lists rows.old starts.old totals.old) }
+// Over the segments, and not over `Places` of rule: a place counts from 1, so that an index would be counted back, and `lists_after` tells the starts and the rows apart.
+#[tactic(auto, using(crate::specs::Laws::ListingLaws::short_rows, crate::specs::Laws::ListingLaws::short_starts, crate::specs::Laws::ListingLaws::short_totals, crate::proofs::Segments::listing_room_totals))]
+pub fn put_lists(text: Text<'_>, t: &[Row], segments: usize, orders: usize, lists: &mut Lists<'_>)
+    ensures after { lent lists.new ≡ lists_after t.now text.entry.service text.entry.bytes.now segments orders (lent lists.old) }
+    ensures same_references { SameLists lists.old lists.new }
 {
-    if rows.len() < segments {
+    if lists.rows.len() < segments || lists.starts.len() < segments || lists.totals.len() < orders {
         return;
     }
-    if starts.len() < segments {
-        return;
-    }
-    if totals.len() < orders {
-        return;
-    }
-    let mut c = chart::cursor_at(m, 0, v);
     let mut row: usize = 0;
-    let mut k: usize = 0;
     let mut n: usize = 0;
-    while k < segments {
-        let at = c.at;
-        if m.len() <= at {
-            return;
-        }
-        row = chart::next_row(t, row, c.tag);
-        c = chart::step(m, v, c);
-        k = put_segment(at, row, k, rows, starts);
-        n = put_total(m, v, at, row, n, orders, totals);
+    for (k, piece) in text.segments(0).take(segments).enumerate() {
+        let at = piece.start();
+        row = chart::next_row(t, row, values::code_at(text, at));
+        put_segment(at, row, k, lists.rows, lists.starts);
+        n = put_total(text, at, row, n, orders, lists.totals);
     }
 }

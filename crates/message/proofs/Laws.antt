@@ -6,3 +6,4 @@ pub mod LoopLaws
 pub mod PlacedLaws
 pub mod RowLaws
 pub mod ValueLaws
+pub mod OneMoreLaws

@@ -1,20 +1,11 @@
 -- "The lowest number that applies is given, and under it the first segment".
-use Rattle.std.specs.Prelude.{ℕ, List, [], ◌∷◌, ◌++◌, ltb}
+use Rattle.std.specs.Prelude.{ℕ, List, [], ◌∷◌, ◌++◌, ltb, Option, None, Some}
 use Rattle.service.specs.Tests.{if}
-use Rattle.faults.specs.declared.Fault.{Fault}
-use Rattle.faults.specs.declared.Fault.TheVariants as fault
+pub use Rattle.faults.specs.Firsts.{Told, told}
 
 -- the place of a number in the order in which refusals are given: today the number itself
 unfoldable pub rank : ℕ → ℕ
 rank n = n
-
--- a number that applies, and a segment
-pub record Told : Type 0 where
-  pub number : ℕ
-  pub segment : ℕ
-
-abbrev pub told : ℕ → ℕ → Told
-told n s = record { number = n; segment = s }
 
 -- all that the rules tell, each with its number
 unfoldable pub tell : ℕ → List ℕ → List Told
@@ -36,6 +27,6 @@ least a [] = a
 least a (b ∷ bs) = lower a (least b bs)
 
 -- the refusal: the least of all that is told, or none
-unfoldable pub least_of : List Told → Fault
-least_of [] = fault.None
-least_of (a ∷ l) = fault.At (least a l).number (least a l).segment
+unfoldable pub least_of : List Told → Option Told
+least_of [] = None
+least_of (a ∷ l) = Some (least a l)

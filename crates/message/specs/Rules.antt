@@ -1,9 +1,7 @@
 -- "Rules on a placed message": for each rule the segments, by their number, at which it is broken. No order of testing is meant by any of them.
-use Rattle.std.specs.Prelude.{ℕ, suc, ◌+◌, List, [], ◌∷◌, ◌++◌, map, Bool, true, false, not, ◌&&◌, ◌||◌, length, eqb, leb}
+use Rattle.std.specs.Prelude.{ℕ, suc, ◌+◌, List, [], ◌∷◌, ◌++◌, map, Bool, true, false, not, ◌&&◌, ◌||◌, length, eqb, leb, Option, None, Some}
 use Prim.Native.String.{String}
 use Rattle.service.specs.Tests.{if, is_empty, alike}
-use Rattle.values.specs.declared.Amount.{Amount}
-use Rattle.values.specs.declared.Amount.TheVariants.{Of, Not}
 use Rattle.values.specs.Forms.Values.{code_of, number_of, is_number, amount_of, is_capitals}
 use Rattle.values.specs.Text.{same_list, says}
 use Rattle.message.specs.Segs.{Seg, Stretch, those, each, on_row, row_of, Name, LIN, MOA5, CUX5, FII6, NAD7, PRC10, SEQ, MOA11, FII12, NAD13, PRC16, FTX16, DOC17, CNT, UNT, is, orders, payments, amounts, details}
@@ -18,13 +16,13 @@ abbrev pub capitals : List ℕ → Bool
 capitals l = is_capitals (code_of l)
 
 -- the thousandths of an amount; one without the form counts 0, and 22 comes before what that could change
-abbrev pub worth : Amount → ℕ
-worth (Of n) = n
-worth Not = 0
+abbrev pub worth : Option ℕ → ℕ
+worth (Some n) = n
+worth None = 0
 
-abbrev pub is_of : Amount → Bool
-is_of (Of n) = true
-is_of Not = false
+abbrev pub is_of : Option ℕ → Bool
+is_of (Some n) = true
+is_of None = false
 
 -- how many pass a test, and whether one does
 abbrev pub count : (Seg → Bool) → List Seg → ℕ

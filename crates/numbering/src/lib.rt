@@ -1,183 +1,147 @@
 // LIN numbers run over the message, SEQ numbers under each LIN, and CNT tells the number of LIN segments: rules 20, 21 and 29.
 #![tactic(auto)]
 
-ghost use Rattle.std.specs.Prelude.{◌+◌, min, ◌≡◌, not, ◌||◌};
-ghost use Rattle.values.specs.Numbers.{value_in};
-ghost use Rattle.values.specs.Text.{says};
+ghost use Rattle.std.specs.Prelude.{◌≡◌, [], ◌∷◌, None};
+ghost use Rattle.std.specs.Option.{option_map};
 ghost use Rattle.message.specs.Segs.{seg_at};
-ghost use Rattle.message.specs.Rules.{writes};
-ghost use Rattle.message.specs.Forms.Counts.{most};
-ghost use Rattle.numbering.specs.Forms.Steps.{numbering_start, numbering_step, line_taken, sequence_taken, control_taken};
+ghost use Rattle.message.specs.Rules.{rule20, rule21, rule29};
+ghost use Rattle.rule.specs.Runs.{none_passed, one_passed};
+ghost use Rattle.numbering.specs.Steps.{line_step, lines_after, sequence_step, sequences_after, control_step, control_after};
 
-use faults::First;
-use service::Service;
+use faults::Fault;
+use numbers::Number;
+use rule::{Counts, Place, Rule};
+use segments::Text;
 use values::codes;
 
-// The number of the LIN last seen.
-#[derive(Clone, Copy)]
-pub struct LineNumber(pub u64);
+// The number of the LIN last seen. No number that a value writes reaches the end of the range, so a count may stop there.
+#[derive(Clone, Copy, Debug, PartialEq, Eq)]
+struct LineNumber(u64);
 
 // The number of the SEQ last seen under its LIN.
-#[derive(Clone, Copy)]
-pub struct SequenceNumber(pub u64);
+#[derive(Clone, Copy, Debug, PartialEq, Eq)]
+struct SequenceNumber(u64);
 
-// `under` is whether a LIN was seen.
-#[derive(Clone, Copy)]
-pub struct Numbering {
-    pub line: LineNumber,
-    pub under: bool,
-    pub sequence: SequenceNumber,
-    pub first20: First,
-    pub first21: First,
-    pub first29: First,
+// 20: the last LIN, which has a row of its own on each chart, and the first at fault.
+#[derive(Clone, Copy, Debug, PartialEq, Eq)]
+pub struct LineNumbers<const LIN: usize> {
+    line: LineNumber,
+    first20: Option<usize>,
 }
 
-// No number that a value writes reaches the end of the range, so a count may stop there.
-impl LineNumber {
-    fn next(self) -> LineNumber
-        ensures { result.0 ≡ min (self.0 + 1) most }
-    {
-        if self.0 < 18446744073709551615 {
-            return LineNumber(self.0 + 1);
+#[tactic(auto, using(crate::proofs::Agree::agree20), unfolding(rule::specs::Refusals::by_rules, crate::specs::Steps::line_step))]
+impl<const LIN: usize> Rule for LineNumbers<LIN> {
+    ghost rules = { λ k ss. (20, rule20 LIN ss) ∷ [] };
+
+    ghost first = { record { line = record { 0 = 0 }; first20 = None } };
+
+    ghost Step = { λ v m k p a b. (b.line.0, b.first20) ≡ line_step LIN (a.line.0, a.first20) (seg_at v m p.nth p.row p.at) };
+
+    ghost After = { λ v m k ss st. (st.line.0, st.first20) ≡ lines_after LIN ss };
+
+    fn start() -> Self {
+        LineNumbers {
+            line: LineNumber(0),
+            first20: None,
         }
-        self
     }
-}
 
-impl SequenceNumber {
-    fn next(self) -> SequenceNumber
-        ensures { result.0 ≡ min (self.0 + 1) most }
-    {
-        if self.0 < 18446744073709551615 {
-            return SequenceNumber(self.0 + 1);
+    fn step(&mut self, text: Text<'_>, counts: Counts, place: Place) {
+        if place.row == LIN {
+            self.line = LineNumber(self.line.0.saturating_add(1));
+            let holds = values::number_is(text, place.at, 1, 0, self.line.0);
+            self.first20 = faults::keep(self.first20, holds, place.nth);
         }
-        self
     }
+
+    fn refusal(&self, text: Text<'_>, other: Option<Fault>) -> Option<Fault> {
+        faults::before(Number::LineNumber, self.first20, other)
+    }
+
+    ghost begun = { λ v m k. none_passed (line_step LIN) (0, None) };
+
+    ghost gone_on = { λ v m k p ss a b h s. one_passed (line_step LIN) (0, None) ss (seg_at v m p.nth p.row p.at) (a.line.0, a.first20) (b.line.0, b.first20) h s };
 }
 
-pub fn start() -> Numbering
-    ensures { result ≡ numbering_start }
-{
-    Numbering {
-        line: LineNumber(0),
-        under: false,
-        sequence: SequenceNumber(0),
-        first20: First::None,
-        first21: First::None,
-        first29: First::None,
-    }
+// 21: the last SEQ under the last LIN, if a LIN was seen, and the first at fault.
+#[derive(Clone, Copy, Debug, PartialEq, Eq)]
+pub struct SequenceNumbers {
+    sequence: Option<SequenceNumber>,
+    first21: Option<usize>,
 }
 
-// A LIN: the next line number, and sequence numbers start again.
-#[tactic(auto, using(crate::specs::Laws::StepLaws::line_by))]
-fn line(st: Numbering, m: &[u8], v: Service, at: usize, nth: usize) -> Numbering
-    ensures { result ≡ line_taken st (value_in v at m.now) nth }
-{
-    let before = st.line;
-    let n = before.next();
-    let holds = values::number_is(m, at, v, 1, 0, n.0);
-    let first = st.first20;
-    let first20 = faults::keep(first, holds, nth);
-    let first21 = st.first21;
-    let first29 = st.first29;
-    let sequence = SequenceNumber(0);
-    Numbering {
-        line: n,
-        under: true,
-        sequence,
-        first20,
-        first21,
-        first29,
+#[tactic(auto, using(crate::proofs::Agree::agree21, faults::specs::Laws::FirstsLaws::lesser_last), unfolding(rule::specs::Refusals::by_rules, crate::specs::Steps::sequence_step, message::specs::Forms::Run::level_step, crate::specs::Steps::count_seq, crate::specs::Steps::tell_seq))]
+impl Rule for SequenceNumbers {
+    ghost rules = { λ k ss. (21, rule21 ss) ∷ [] };
+
+    ghost first = { record { sequence = None; first21 = None } };
+
+    ghost Step = { λ v m k p a b. (option_map (λ n. n.0) b.sequence, b.first21) ≡ sequence_step (option_map (λ n. n.0) a.sequence, a.first21) (seg_at v m p.nth p.row p.at) };
+
+    ghost After = { λ v m k ss st. (option_map (λ n. n.0) st.sequence, st.first21) ≡ sequences_after ss };
+
+    fn start() -> Self {
+        SequenceNumbers {
+            sequence: None,
+            first21: None,
+        }
     }
+
+    fn step(&mut self, text: Text<'_>, counts: Counts, place: Place) {
+        if place.row == paymul::LIN {
+            self.sequence = Some(SequenceNumber(0));
+        } else if place.row == paymul::SEQ {
+            if let Some(last) = self.sequence {
+                let number = last.0.saturating_add(1);
+                self.sequence = Some(SequenceNumber(number));
+                let holds = values::number_is(text, place.at, 2, 0, number);
+                self.first21 = faults::keep(self.first21, holds, place.nth);
+            }
+        }
+    }
+
+    fn refusal(&self, text: Text<'_>, other: Option<Fault>) -> Option<Fault> {
+        faults::before(Number::SequenceNumber, self.first21, other)
+    }
+
+    ghost begun = { λ v m k. none_passed sequence_step (None, None) };
+
+    ghost gone_on = { λ v m k p ss a b h s. one_passed sequence_step (None, None) ss (seg_at v m p.nth p.row p.at) (option_map (λ n. n.0) a.sequence, a.first21) (option_map (λ n. n.0) b.sequence, b.first21) h s };
 }
 
-// Whether a SEQ holds: under a LIN its number is n.
-#[tactic(auto, using(crate::specs::Laws::StepLaws::implies_so, crate::specs::Laws::StepLaws::implies_not))]
-fn sequence_holds(m: &[u8], v: Service, at: usize, under: bool, n: u64) -> bool
-    ensures { result ≡ not under || writes (value_in v at m.now 2 0) n }
-{
-    if under {
-        return values::number_is(m, at, v, 2, 0, n);
-    }
-    true
+// 29: the first CNT at fault.
+#[derive(Clone, Copy, Debug, PartialEq, Eq)]
+pub struct Control {
+    first29: Option<usize>,
 }
 
-// A SEQ: the next sequence number under its LIN.
-#[tactic(auto, using(crate::specs::Laws::StepLaws::sequence_by))]
-fn sequence(st: Numbering, m: &[u8], v: Service, at: usize, nth: usize) -> Numbering
-    ensures { result ≡ sequence_taken st (value_in v at m.now) nth }
-{
-    let before = st.sequence;
-    let n = before.next();
-    let holds = sequence_holds(m, v, at, st.under, n.0);
-    let first = st.first21;
-    let first21 = faults::keep(first, holds, nth);
-    let line = st.line;
-    let first20 = st.first20;
-    let first29 = st.first29;
-    Numbering {
-        line,
-        under: st.under,
-        sequence: n,
-        first20,
-        first21,
-        first29,
-    }
-}
+#[tactic(auto, using(crate::proofs::Agree::agree29, crate::proofs::Ways::two_code), unfolding(rule::specs::Refusals::by_rules, crate::specs::Steps::control_step, message::specs::Forms::Run::test_step))]
+impl Rule for Control {
+    ghost rules = { λ k ss. (29, rule29 k.orders ss) ∷ [] };
 
-// Whether a CNT holds: with qualifier 2 its value is the number of LIN segments.
-#[tactic(auto, using(crate::specs::Laws::StepLaws::two_so, crate::specs::Laws::StepLaws::two_not))]
-fn control_holds(m: &[u8], v: Service, at: usize, orders: u64) -> bool
-    ensures { result ≡ not (says (value_in v at m.now 1 0) "2") || writes (value_in v at m.now 1 1) orders }
-{
-    if values::code_in(m, at, v, 1, 0) == codes::TWO {
-        return values::number_is(m, at, v, 1, 1, orders);
-    }
-    true
-}
+    ghost first = { record { first29 = None } };
 
-#[tactic(auto, using(crate::specs::Laws::StepLaws::control_by))]
-fn control(st: Numbering, m: &[u8], v: Service, at: usize, nth: usize, orders: u64) -> Numbering
-    ensures { result ≡ control_taken orders st (value_in v at m.now) nth }
-{
-    let holds = control_holds(m, v, at, orders);
-    let first = st.first29;
-    let first29 = faults::keep(first, holds, nth);
-    let line = st.line;
-    let sequence = st.sequence;
-    let first20 = st.first20;
-    let first21 = st.first21;
-    Numbering {
-        line,
-        under: st.under,
-        sequence,
-        first20,
-        first21,
-        first29,
-    }
-}
+    ghost Step = { λ v m k p a b. b.first29 ≡ control_step k.orders a.first29 (seg_at v m p.nth p.row p.at) };
 
-// One segment, the nth, of a message with `orders` LIN segments.
-#[tactic(auto, using(crate::specs::Laws::StepLaws::step_line, crate::specs::Laws::StepLaws::step_sequence, crate::specs::Laws::StepLaws::step_control, crate::specs::Laws::StepLaws::step_other))]
-pub fn step(
-    st: Numbering,
-    m: &[u8],
-    v: Service,
-    at: usize,
-    nth: usize,
-    row: usize,
-    orders: u64,
-) -> Numbering
-    ensures { result ≡ numbering_step orders st (seg_at v m.now nth row at) }
-{
-    if row == paymul::LIN {
-        return line(st, m, v, at, nth);
+    ghost After = { λ v m k ss st. st.first29 ≡ control_after k.orders ss };
+
+    fn start() -> Self {
+        Control { first29: None }
     }
-    if row == paymul::SEQ {
-        return sequence(st, m, v, at, nth);
+
+    // With qualifier 2 its value is the number of LIN segments.
+    fn step(&mut self, text: Text<'_>, counts: Counts, place: Place) {
+        if place.row == paymul::CNT && values::code_in(text, place.at, 1, 0) == codes::TWO {
+            let holds = values::number_is(text, place.at, 1, 1, counts.orders);
+            self.first29 = faults::keep(self.first29, holds, place.nth);
+        }
     }
-    if row == paymul::CNT {
-        return control(st, m, v, at, nth, orders);
+
+    fn refusal(&self, text: Text<'_>, other: Option<Fault>) -> Option<Fault> {
+        faults::before(Number::Control, self.first29, other)
     }
-    st
+
+    ghost begun = { λ v m k. none_passed (control_step k.orders) None };
+
+    ghost gone_on = { λ v m k p ss a b h s. one_passed (control_step k.orders) None ss (seg_at v m p.nth p.row p.at) a.first29 b.first29 h s };
 }

@@ -1,370 +1,200 @@
 // The parties of an order (level B) and of a payment (level C): rule 27.
 #![tactic(auto)]
 
-ghost use Rattle.std.specs.Prelude.{◌≡◌, true, false, ◌&&◌};
-ghost use Rattle.service.specs.Tests.{if, alike as alikeOf};
+ghost use Rattle.std.specs.Prelude.{ℕ, ◌≡◌, false, eqb, [], ◌∷◌, None};
 ghost use Rattle.faults.specs.Firsts.{lesser};
 ghost use Rattle.values.specs.Numbers.{value_in};
+ghost use Rattle.values.specs.Forms.Values.{code_of};
 ghost use Rattle.message.specs.Segs.{seg_at};
-ghost use Rattle.message.specs.Rules.{order_holds, payment_holds};
+ghost use Rattle.message.specs.Rules.{order_holds, payment_holds, rule27};
+ghost use Rattle.message.specs.Forms.Run.{run, place_if};
 ghost use Rattle.message.specs.Forms.Counts.{more_if};
-ghost use Rattle.parties.specs.Forms.Steps.{name_in, bf_holds, level_b, level_c, order_fii, order_nad, payment_fii, payment_nad, order_comes, payment_comes, parties_start, parties_step, parties_close, with_order, with_payment, ended};
+ghost use Rattle.rule.specs.Runs.{none_passed, one_passed};
+ghost use Rattle.parties.specs.Forms.Steps.{name_in, level_of, with_account, with_parties, payment_comes, parties_start, parties_step, parties_close, with_payment, ended};
 
-use faults::First;
-use service::Service;
+use faults::Fault;
+use numbers::Number;
+use rule::{Counts, Place, Rule};
+use segments::Text;
 use values::codes;
 
-// An order: its LIN, how many FII+OR, NAD+PL and NAD+OY it has (two stands for more), and whether an OR has a name.
-#[derive(Clone, Copy)]
-pub struct LevelB {
-    pub lin: First,
-    pub or: u8,
+// The parties of an order or a payment: its LIN or SEQ, if there is one, how many accounts, holders and others it has (two stands for more), and whether an
+// account has a name. Of an order these are FII+OR, NAD+PL and NAD+OY, of a payment FII+BF, NAD+PE and NAD+BE. A level and no Option of one: an FII counts before
+// its LIN or SEQ too, as the definition `level_inner` says. Numbers and no enum of none, one and more: the definitions `order_holds` and `payment_holds` compare them.
+#[derive(Clone, Copy, Debug, PartialEq, Eq)]
+pub struct LevelParties {
+    pub head: Option<usize>,
+    pub account: u8,
     pub named: bool,
-    pub pl: u8,
-    pub oy: u8,
-}
-
-// A payment: its SEQ, how many FII+BF, NAD+PE and NAD+BE it has (two stands for more), and whether a BF has a name.
-#[derive(Clone, Copy)]
-pub struct LevelC {
-    pub seq: First,
-    pub bf: u8,
-    pub named: bool,
-    pub pe: u8,
-    pub be: u8,
+    pub holder: u8,
+    pub other: u8,
 }
 
 // The order and the payment at hand, and the first of each that did not hold.
-#[derive(Clone, Copy)]
+#[derive(Clone, Copy, Debug, PartialEq, Eq)]
 pub struct Parties {
-    pub order: LevelB,
-    pub orders: First,
-    pub payment: LevelC,
-    pub payments: First,
+    pub order: LevelParties,
+    pub orders: Option<usize>,
+    pub payment: LevelParties,
+    pub payments: Option<usize>,
 }
 
-fn new_order(lin: First) -> LevelB
-    ensures { result ≡ level_b lin 0 false 0 0 }
-{
-    LevelB {
-        lin,
-        or: 0,
-        named: false,
-        pl: 0,
-        oy: 0,
-    }
-}
-
-fn new_payment(seq: First) -> LevelC
-    ensures { result ≡ level_c seq 0 false 0 0 }
-{
-    LevelC {
-        seq,
-        bf: 0,
-        named: false,
-        pe: 0,
-        be: 0,
-    }
-}
-
-#[tactic(auto, using(crate::specs::Laws::StepLaws::start_by_lem))]
-pub fn start() -> Parties
-    ensures { result ≡ parties_start }
-{
-    Parties {
-        order: new_order(First::None),
-        orders: First::None,
-        payment: new_payment(First::None),
-        payments: First::None,
-    }
-}
-
-// None, one, or more.
-#[tactic(auto, using(crate::specs::Laws::StepLaws::more_one, crate::specs::Laws::StepLaws::more_two, crate::specs::Laws::StepLaws::more_none))]
+// None, one, or more: one more, if there is.
+#[tactic(auto, using(crate::specs::Laws::StepLaws::more_one))]
 fn more_if(t: bool, n: u8) -> u8
     ensures { result ≡ more_if t n }
 {
     if t {
-        if n < 2 {
-            return n + 1;
-        }
-        return 2;
+        return n.saturating_add(1).min(2);
     }
     n
 }
 
 // Whether the FII at `at` gives a holder name.
-#[tactic(auto, using(crate::specs::Laws::StepLaws::name_second, crate::specs::Laws::StepLaws::name_first))]
-fn has_name(m: &[u8], v: Service, at: usize) -> bool
-    ensures { result ≡ name_in (value_in v at m.now) }
+#[tactic(auto, using(crate::specs::Laws::StepLaws::name_first, crate::specs::Laws::StepLaws::name_second))]
+fn has_name(text: Text<'_>, at: usize) -> bool
+    ensures { result ≡ name_in (value_in text.entry.service at text.entry.bytes.now) }
 {
-    if values::code_in(m, at, v, 2, 1) == codes::EMPTY {
-        return values::code_in(m, at, v, 2, 2) != codes::EMPTY;
+    values::code_in(text, at, 2, 1) != codes::EMPTY
+        || values::code_in(text, at, 2, 2) != codes::EMPTY
+}
+
+impl LevelParties {
+    // Those of an order or a payment that begins.
+    fn new(head: Option<usize>) -> LevelParties
+        ensures { result ≡ level_of head 0 false 0 0 }
+    {
+        LevelParties {
+            head,
+            account: 0,
+            named: false,
+            holder: 0,
+            other: 0,
+        }
     }
-    true
-}
 
-// Whether a name was given before, or is by the FII at `at`, if that is the one.
-#[tactic(auto, using(crate::specs::Laws::StepLaws::name_before, crate::specs::Laws::StepLaws::name_now, crate::specs::Laws::StepLaws::name_none))]
-fn name_if(before: bool, t: bool, m: &[u8], v: Service, at: usize) -> bool
-    ensures { result ≡ if (t && name_in (value_in v at m.now)) true before }
-{
-    if before {
-        return true;
+    // An FII, which is an account if it has this qualifier.
+    #[tactic(auto, using(crate::specs::Laws::StepLaws::or_if))]
+    fn fii(&mut self, text: Text<'_>, at: usize, account: u64)
+        ensures { self.new ≡ with_account self.old (eqb (code_of (value_in text.entry.service at text.entry.bytes.now 1 0)) account) (value_in text.entry.service at text.entry.bytes.now) }
+    {
+        let is_account = values::code_in(text, at, 1, 0) == account;
+        self.account = more_if(is_account, self.account);
+        self.named = self.named || is_account && has_name(text, at);
     }
-    if t {
-        return has_name(m, v, at);
+
+    // A NAD, which is a holder or another party if it has their qualifier.
+    fn nad(&mut self, text: Text<'_>, at: usize, holder: u64, other: u64)
+        ensures { self.new ≡ with_parties self.old (eqb (code_of (value_in text.entry.service at text.entry.bytes.now 1 0)) holder) (eqb (code_of (value_in text.entry.service at text.entry.bytes.now 1 0)) other) }
+    {
+        let code = values::code_in(text, at, 1, 0);
+        self.holder = more_if(code == holder, self.holder);
+        self.other = more_if(code == other, self.other);
     }
-    false
-}
 
-fn alike(a: bool, b: bool) -> bool
-    ensures { result ≡ alikeOf a b }
-{
-    if a {
-        return b;
+    // An order: exactly one OR, at most one PL and one OY, and a name exactly if there is no PL.
+    #[tactic(auto, unfolding(message::specs::Rules::order_holds))]
+    fn order_holds(self) -> bool
+        ensures { result ≡ order_holds self.account self.named self.holder self.other }
+    {
+        self.account == 1 && self.holder <= 1 && self.other <= 1 && self.named == (self.holder == 0)
     }
-    if b { false } else { true }
-}
 
-// Level B: exactly one OR, at most one PL and one OY, and a name exactly if there is no PL.
-#[tactic(auto, using(crate::specs::Laws::StepLaws::order_by))]
-fn order_holds(o: LevelB) -> bool
-    ensures { result ≡ order_holds o.or o.named o.pl o.oy }
-{
-    let one = truth::both(o.or == 1, o.pl <= 1);
-    let few = truth::both(one, o.oy <= 1);
-    let name = alike(o.named, o.pl == 0);
-    truth::both(few, name)
-}
-
-// Without BF, BE and no PE; with BF, a name exactly if there is no PE.
-#[tactic(auto, using(crate::specs::Laws::StepLaws::bf_none, crate::specs::Laws::StepLaws::bf_some))]
-fn bf_holds(p: LevelC) -> bool
-    ensures { result ≡ bf_holds p.bf p.named p.pe p.be }
-{
-    if p.bf == 0 {
-        return truth::both(p.be == 1, p.pe == 0);
+    // A payment: at most one each of BF, PE and BE. Without BF, BE and no PE; with BF, a name exactly if there is no PE.
+    #[tactic(auto, unfolding(message::specs::Rules::payment_holds))]
+    fn payment_holds(self) -> bool
+        ensures { result ≡ payment_holds self.account self.named self.holder self.other }
+    {
+        if self.account > 1 || self.holder > 1 || self.other > 1 {
+            return false;
+        }
+        if self.account == 0 {
+            return self.other == 1 && self.holder == 0;
+        }
+        self.named == (self.holder == 0)
     }
-    alike(p.named, p.pe == 0)
-}
 
-// Level C: at most one each of BF, PE and BE, and what goes with BF.
-#[tactic(auto, using(crate::specs::Laws::StepLaws::payment_by))]
-fn payment_holds(p: LevelC) -> bool
-    ensures { result ≡ payment_holds p.bf p.named p.pe p.be }
-{
-    let one = truth::both(p.bf <= 1, p.pe <= 1);
-    let few = truth::both(one, p.be <= 1);
-    let with = bf_holds(p);
-    truth::both(few, with)
-}
-
-// The LIN of an order whose parties do not hold.
-#[tactic(auto, using(crate::specs::Laws::StepLaws::order_none, crate::specs::Laws::StepLaws::order_at))]
-fn order_fault(o: LevelB) -> First
-    ensures { result ≡ order_comes o }
-{
-    let place = o.lin;
-    match place {
-        First::None => First::None,
-        First::At(nth) => faults::unless(order_holds(o), nth),
+    // Its LIN or SEQ, if it is one whose parties do not hold.
+    #[tactic(auto, using(crate::specs::Laws::StepLaws::fault_none, crate::specs::Laws::StepLaws::fault_at))]
+    fn fault(self, holds: bool) -> Option<usize>
+        ensures { result ≡ place_if self.head holds }
+    {
+        if holds {
+            return None;
+        }
+        self.head
     }
 }
 
-// The SEQ of a payment whose parties do not hold.
-#[tactic(auto, using(crate::specs::Laws::StepLaws::payment_none, crate::specs::Laws::StepLaws::payment_at))]
-fn payment_fault(p: LevelC) -> First
-    ensures { result ≡ payment_comes p }
-{
-    let place = p.seq;
-    match place {
-        First::None => First::None,
-        First::At(nth) => faults::unless(payment_holds(p), nth),
+impl Parties {
+    // The end of a payment, and the next one, if there is one.
+    #[tactic(auto, unfolding(crate::specs::Forms::Steps::payment_comes))]
+    fn next_payment(&mut self, seq: Option<usize>)
+        ensures { self.new ≡ with_payment self.old (level_of seq 0 false 0 0) (lesser self.old.payments (payment_comes self.old.payment)) }
+    {
+        let fault = self.payment.fault(self.payment.payment_holds());
+        self.payments = faults::earlier(self.payments, fault);
+        self.payment = LevelParties::new(seq);
+    }
+
+    // The end of an order and of its last payment, and the next order, if there is one.
+    #[tactic(auto, unfolding(crate::specs::Forms::Steps::order_comes))]
+    fn next_order(&mut self, lin: Option<usize>)
+        ensures { self.new ≡ ended self.old lin }
+    {
+        self.next_payment(None);
+        let fault = self.order.fault(self.order.order_holds());
+        self.orders = faults::earlier(self.orders, fault);
+        self.order = LevelParties::new(lin);
+    }
+
+    // The first LIN or SEQ whose parties do not hold, with the order and the payment at hand ended. Each rule ends its own parts: a generic `close` would take both
+    // steps as arguments.
+    #[tactic(auto, using(crate::specs::Laws::StepLaws::closed))]
+    pub fn close(mut self) -> Option<usize>
+        ensures { result ≡ parties_close self }
+    {
+        self.next_order(None);
+        faults::earlier(self.orders, self.payments)
     }
 }
 
-// The end of a payment, and the next one.
-#[tactic(auto, using(crate::specs::Laws::StepLaws::next_payment_by))]
-fn next_payment(st: Parties, seq: First) -> Parties
-    ensures { result ≡ with_payment st (level_c seq 0 false 0 0) (lesser st.payments (payment_comes st.payment)) }
-{
-    let p = st.payment;
-    let order = st.order;
-    let orders = st.orders;
-    let before = st.payments;
-    let payments = faults::earlier(before, payment_fault(p));
-    Parties {
-        order,
-        orders,
-        payment: new_payment(seq),
-        payments,
-    }
-}
+#[tactic(auto, using(crate::specs::Laws::Agree::agree27, crate::specs::Laws::StepLaws::step_lin, crate::specs::Laws::StepLaws::step_seq, crate::specs::Laws::StepLaws::step_order_fii, crate::specs::Laws::StepLaws::step_order_nad, crate::specs::Laws::StepLaws::step_payment_fii, crate::specs::Laws::StepLaws::step_payment_nad, crate::specs::Laws::StepLaws::step_other), unfolding(rule::specs::Refusals::by_rules))]
+impl Rule for Parties {
+    ghost rules = { λ k ss. (27, rule27 ss) ∷ [] };
 
-// The end of an order and of its last payment, and the next order.
-#[tactic(auto, using(crate::specs::Laws::StepLaws::next_order_by))]
-fn next_order(st: Parties, lin: First) -> Parties
-    ensures { result ≡ ended st lin }
-{
-    let u = next_payment(st, First::None);
-    let o = u.order;
-    let payment = u.payment;
-    let payments = u.payments;
-    let before = u.orders;
-    let orders = faults::earlier(before, order_fault(o));
-    Parties {
-        order: new_order(lin),
-        orders,
-        payment,
-        payments,
-    }
-}
+    ghost first = { parties_start };
 
-// The first LIN or SEQ whose parties do not hold, with the order and the payment at hand ended.
-#[tactic(auto, using(crate::specs::Laws::StepLaws::closed))]
-pub fn close(st: Parties) -> First
-    ensures { result ≡ parties_close st }
-{
-    let u = next_order(st, First::None);
-    let orders = u.orders;
-    let payments = u.payments;
-    faults::earlier(orders, payments)
-}
+    ghost Step = { λ v m k p a b. b ≡ parties_step a (seg_at v m p.nth p.row p.at) };
 
-// An FII of an order.
-#[tactic(auto, using(crate::specs::Laws::StepLaws::order_fii_by))]
-fn order_fii(o: LevelB, m: &[u8], v: Service, at: usize) -> LevelB
-    ensures { result ≡ order_fii o (value_in v at m.now) }
-{
-    let lin = o.lin;
-    let code = values::code_in(m, at, v, 1, 0);
-    let or = more_if(code == codes::OR, o.or);
-    let named = name_if(o.named, code == codes::OR, m, v, at);
-    LevelB {
-        lin,
-        or,
-        named,
-        pl: o.pl,
-        oy: o.oy,
-    }
-}
+    ghost After = { λ v m k ss st. st ≡ run parties_step parties_start ss };
 
-// A NAD of an order.
-#[tactic(auto, using(crate::specs::Laws::StepLaws::order_nad_by))]
-fn order_nad(o: LevelB, m: &[u8], v: Service, at: usize) -> LevelB
-    ensures { result ≡ order_nad o (value_in v at m.now) }
-{
-    let lin = o.lin;
-    let code = values::code_in(m, at, v, 1, 0);
-    let pl = more_if(code == codes::PL, o.pl);
-    let oy = more_if(code == codes::OY, o.oy);
-    LevelB {
-        lin,
-        or: o.or,
-        named: o.named,
-        pl,
-        oy,
+    fn start() -> Self {
+        Parties {
+            order: LevelParties::new(None),
+            orders: None,
+            payment: LevelParties::new(None),
+            payments: None,
+        }
     }
-}
 
-// An FII of a payment.
-#[tactic(auto, using(crate::specs::Laws::StepLaws::payment_fii_by))]
-fn payment_fii(p: LevelC, m: &[u8], v: Service, at: usize) -> LevelC
-    ensures { result ≡ payment_fii p (value_in v at m.now) }
-{
-    let seq = p.seq;
-    let code = values::code_in(m, at, v, 1, 0);
-    let bf = more_if(code == codes::BF, p.bf);
-    let named = name_if(p.named, code == codes::BF, m, v, at);
-    LevelC {
-        seq,
-        bf,
-        named,
-        pe: p.pe,
-        be: p.be,
+    fn step(&mut self, text: Text<'_>, counts: Counts, place: Place) {
+        match place.row {
+            paymul::LIN => self.next_order(Some(place.nth)),
+            paymul::SEQ => self.next_payment(Some(place.nth)),
+            paymul::ORDER_FII => self.order.fii(text, place.at, codes::OR),
+            paymul::ORDER_NAD => self.order.nad(text, place.at, codes::PL, codes::OY),
+            paymul::PAYMENT_FII => self.payment.fii(text, place.at, codes::BF),
+            paymul::PAYMENT_NAD => self.payment.nad(text, place.at, codes::PE, codes::BE),
+            _ => {}
+        }
     }
-}
 
-// A NAD of a payment.
-#[tactic(auto, using(crate::specs::Laws::StepLaws::payment_nad_by))]
-fn payment_nad(p: LevelC, m: &[u8], v: Service, at: usize) -> LevelC
-    ensures { result ≡ payment_nad p (value_in v at m.now) }
-{
-    let seq = p.seq;
-    let code = values::code_in(m, at, v, 1, 0);
-    let pe = more_if(code == codes::PE, p.pe);
-    let be = more_if(code == codes::BE, p.be);
-    LevelC {
-        seq,
-        bf: p.bf,
-        named: p.named,
-        pe,
-        be,
+    fn refusal(&self, text: Text<'_>, other: Option<Fault>) -> Option<Fault> {
+        faults::before(Number::Parties, self.close(), other)
     }
-}
 
-fn with_order(st: Parties, order: LevelB) -> Parties
-    ensures { result ≡ with_order st order }
-{
-    let orders = st.orders;
-    let payment = st.payment;
-    let payments = st.payments;
-    Parties {
-        order,
-        orders,
-        payment,
-        payments,
-    }
-}
+    ghost begun = { λ v m k. none_passed parties_step parties_start };
 
-fn with_payment(st: Parties, payment: LevelC) -> Parties
-    ensures { result ≡ with_payment st payment st.payments }
-{
-    let order = st.order;
-    let orders = st.orders;
-    let payments = st.payments;
-    Parties {
-        order,
-        orders,
-        payment,
-        payments,
-    }
-}
-
-// One segment, the nth, inside an order or a payment.
-#[tactic(auto, using(crate::specs::Laws::StepLaws::step_order_fii, crate::specs::Laws::StepLaws::step_order_nad, crate::specs::Laws::StepLaws::step_payment_fii, crate::specs::Laws::StepLaws::step_payment_nad, crate::specs::Laws::StepLaws::step_other))]
-fn inside(st: Parties, m: &[u8], v: Service, at: usize, nth: usize, row: usize) -> Parties
-    requires { (row ≡ 17 → ⊥) × (row ≡ 50 → ⊥) }
-    ensures { result ≡ parties_step st (seg_at v m.now nth row at) }
-{
-    let o = st.order;
-    let p = st.payment;
-    if row == paymul::ORDER_FII {
-        return with_order(st, order_fii(o, m, v, at));
-    }
-    if row == paymul::ORDER_NAD {
-        return with_order(st, order_nad(o, m, v, at));
-    }
-    if row == paymul::PAYMENT_FII {
-        return with_payment(st, payment_fii(p, m, v, at));
-    }
-    if row == paymul::PAYMENT_NAD {
-        return with_payment(st, payment_nad(p, m, v, at));
-    }
-    st
-}
-
-// One segment, the nth.
-#[tactic(auto, using(crate::specs::Laws::StepLaws::step_lin, crate::specs::Laws::StepLaws::step_seq))]
-pub fn step(st: Parties, m: &[u8], v: Service, at: usize, nth: usize, row: usize) -> Parties
-    ensures { result ≡ parties_step st (seg_at v m.now nth row at) }
-{
-    if row == paymul::LIN {
-        return next_order(st, First::At(nth));
-    }
-    if row == paymul::SEQ {
-        return next_payment(st, First::At(nth));
-    }
-    inside(st, m, v, at, nth, row)
+    ghost gone_on = { λ v m k p ss a b h s. one_passed parties_step parties_start ss (seg_at v m p.nth p.row p.at) a b h s };
 }

@@ -1,7 +1,9 @@
 -- A segment's values, trailing empties aside: what rewriting keeps of a segment.
 use Rattle.std.specs.Prelude.{ℕ, List, [], ◌∷◌, map, false, drop}
 use Rattle.service.specs.declared.Service.{Service}
-use Rattle.segments.specs.SegmentList.{Piece, finished, unfinished, segments_from}
+use Rattle.segments.specs.declared.Piece.{Piece}
+use Rattle.segments.specs.declared.Piece.TheVariants.{Finished as finished, Unfinished as unfinished}
+use Rattle.segments.specs.SegmentList.{segments_from}
 use Rattle.parts.specs.Parts.{lex, elements}
 
 -- one more put before what is kept: not kept where it is empty and nothing follows

@@ -1,5 +1,6 @@
 -- The PAYMUL chart: the table of the guide's section 2.2 with what the segments' pages say.
 use Rattle.std.specs.Prelude.{List, [], ◌∷◌, ℕ}
+use Rattle.table.specs.declared.Row.{Row}
 use Rattle.table.specs.Entries.{Entry, entry, outside, lines_from}
 
 -- the rows, 'numbered from 1 in the order of 003 section 2.2'; row 0 is the message: 'such a group, opened by UNH'
@@ -121,7 +122,7 @@ table =
     []
 
 -- its lines, as the code has them
-unfoldable pub PAYMUL : List (List ℕ)
+unfoldable pub PAYMUL : List Row
 PAYMUL = lines_from 0 table
 
 -- how many rows it has, row 0 among them

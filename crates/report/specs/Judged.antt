@@ -2,7 +2,7 @@
 use Rattle.std.specs.Prelude.{ℕ, ◌≡◌, List, true}
 use Rattle.service.specs.declared.Service.{Service}
 use Rattle.lent.specs.Lists.{Lists}
-use Rattle.report.specs.declared.Report.{Report}
+use Rattle.report.specs.Answers.{Report}
 use Rattle.report.specs.Reported.{bare_of, room_of, fits, Reported}
 
 -- the lists x are long enough for the message m: 14 does not apply to it

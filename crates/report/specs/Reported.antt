@@ -1,9 +1,11 @@
 -- "What is given back": the report of one message, by the faults that apply to it and by its reading on the chart.
 use Rattle.std.specs.Prelude.{ℕ, suc, zero, ◌+◌, ◌≤◌, ◌<◌, ◌≡◌, ◌⊎◌, List, [], ◌∷◌, ◌++◌, map, Bool, true, false, ◌&&◌, length, get_or, eqb, leb}
+use Rattle.numbers.specs.Table.{table_number}
 use Rattle.service.specs.declared.Service.{Service}
 use Rattle.service.specs.Service.{fitting}
 use Rattle.service.specs.Tests.{if, is_empty}
-use Rattle.segments.specs.SegmentList.{Piece, start_of, segments_from, starts_of, start_at}
+use Rattle.segments.specs.declared.Piece.{Piece}
+use Rattle.segments.specs.SegmentList.{start_of, segments_from, starts_of, start_at}
 use Rattle.parts.specs.Parts.{strange_in}
 use Rattle.values.specs.Text.{says}
 use Rattle.values.specs.Numbers.{value_in}
@@ -20,8 +22,8 @@ use Rattle.message.specs.Segs.{Seg, segs_of}
 use Rattle.message.specs.Kinds.{means, chart_for, rules_for, order_count, payment_count, totals_for}
 use Rattle.message.specs.Faults.{rank, Told, told, tell_all}
 use Rattle.report.specs.declared.Counts.{Counts}
-use Rattle.report.specs.declared.Report.{Report}
-use Rattle.report.specs.declared.Report.TheVariants.{Accepted, Refused}
+use Rattle.report.specs.Answers.{Report}
+use Rattle.report.specs.Answers.{Accepted, Refused}
 
 -- ---- 1, 2 and 10 to 14, which need no placement
 -- a segment as these see it: whether no value byte of it is outside 0x20..0x7E and 0xA0..0xFF, and the value of a component of an element
@@ -130,4 +132,4 @@ filled k v m rows x = lists (over rows x.rows) (over (starts_of v m) x.starts) (
 pub data Reported (v : Service) (m : List ℕ) (x x' : Lists) : Report → Type 0 where
   accepted : (c : Counts) (k : Kind) → Of k v m → (rows : List ℕ) → Reading (chart_for k) (tags_of v m) rows → ((n s : ℕ) → Applies v m (room_of x) n s → ⊥)
       → c ≡ counts_of k (segs_of v m rows) → x' ≡ filled k v m rows x → Reported v m x x' (Accepted c)
-  refused : (f : Refusal) → Lowest v m (room_of x) f.number f.segment → f.offset ≡ offset_of v m f.number f.segment → x' ≡ x → Reported v m x x' (Refused f)
+  refused : (f : Refusal) → Lowest v m (room_of x) (table_number f.number) f.segment → f.offset ≡ offset_of v m (table_number f.number) f.segment → x' ≡ x → Reported v m x x' (Refused f)

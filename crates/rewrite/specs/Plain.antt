@@ -1,23 +1,23 @@
 -- An interchange in plain service characters, as document 01 says: "Rewriting any interchange that opens drops UNA, CR and LF between segments, and
 -- trailing empty components and elements; it uses the default characters, releasing these four bytes `:` `+` `?` `'` and a CR or LF that begins a
 -- segment, and no other."
-use Rattle.std.specs.Prelude.{ℕ, List, [], ◌∷◌, ◌++◌, map, Bool, ◌&&◌, length, leb}
+use Rattle.std.specs.Prelude.{ℕ, List, [], ◌∷◌, ◌++◌, map, Bool, ◌&&◌, length, leb, Ok, Err}
+use Rattle.numbers.specs.declared.Number.TheVariants as numbers
 use Rattle.service.specs.Service.{among}
 use Rattle.service.specs.Tests.{if}
 use Rattle.segments.specs.Classes.{is_break}
 use Rattle.parts.specs.Trimmed.{Values, values_from}
-use Rattle.interchange.specs.declared.Opening.{Opening}
-use Rattle.interchange.specs.declared.Opening.TheVariants as opening
+use Rattle.interchange.specs.Answers.{Opening}
 use Rattle.interchange.specs.Envelope.{refusal}
 use Rattle.interchange.specs.Forms.Answers.{opening_of}
 use Rattle.lent.specs.Over.{over}
-use Rattle.rewrite.specs.declared.Rewriting.{Rewriting}
-use Rattle.rewrite.specs.declared.Rewriting.TheVariants.{Written, Refused}
+use Rattle.rewrite.specs.Answers.{Rewriting}
+use Rattle.rewrite.specs.Answers.{Written, Refused}
 
 -- ---- the values of an interchange
 abbrev pub values_by : List ℕ → Opening → List Values
-values_by s (opening.Opens v first) = values_from v s first
-values_by s (opening.Refused f) = []
+values_by s (Ok m) = values_from m.service s m.first
+values_by s (Err f) = []
 
 -- the values of an interchange, segment by segment, trailing empties aside: none where it does not open
 unfoldable pub values_of : List ℕ → List Values
@@ -73,20 +73,20 @@ unfoldable pub fits : ℕ → ℕ → Bool
 fits n room = leb n 1048576 && leb n room
 
 abbrev pub fitting : ℕ → ℕ → Rewriting
-fitting n room = if (fits n room) (Written n) (Refused (refusal 9))
+fitting n room = if (fits n room) (Written n) (Refused (refusal numbers.Room))
 
 -- "Closing and rewriting give 1 to 4 first, as opening does."
 abbrev pub rewriting_by : Opening → ℕ → ℕ → Rewriting
-rewriting_by (opening.Opens v first) n room = fitting n room
-rewriting_by (opening.Refused f) n room = Refused f
+rewriting_by (Ok m) n room = fitting n room
+rewriting_by (Err f) n room = Refused f
 
 unfoldable pub rewriting_of : List ℕ → ℕ → Rewriting
 rewriting_of s room = rewriting_by (opening_of s) (length (rewritten s)) room
 
 -- "Bytes past the result keep their content"; a refusal changes nothing
 abbrev pub room_by : Rewriting → List ℕ → List ℕ → List ℕ
-room_by (Written n) new old = over new old
-room_by (Refused f) new old = old
+room_by (Ok n) new old = over new old
+room_by (Err f) new old = old
 
 unfoldable pub room_after : List ℕ → List ℕ → List ℕ
 room_after s old = room_by (rewriting_of s (length old)) (rewritten s) old

@@ -6,6 +6,7 @@ pub mod FindLaws
 pub mod FitLaws
 pub mod ListLaws
 pub mod PartLaws
+pub mod ReaderLaws
 pub mod ResyncLaws
 pub mod SegmentsLaws
 pub mod SplitLaws

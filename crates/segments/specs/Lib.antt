@@ -1,5 +1,6 @@
 pub mod Classes
 pub mod SegmentList
+pub mod Left
 pub mod Sync
 pub mod Ends
 pub mod Forms

@@ -5,11 +5,10 @@ use Rattle.service.specs.Tests.{if}
 use Rattle.segments.specs.declared.Class.{Class}
 use Rattle.segments.specs.declared.Class.TheVariants.{Plain, Comp, Elem, Rel, Term}
 use Rattle.segments.specs.Classes.{class_of, is_break}
-
 -- a segment from its first byte to its terminator, or to the end of the text: "Bytes that no terminator ends, a last release included, are
 -- an unfinished segment."
-pub data Piece : Type 0 where
-  finished unfinished : ℕ → ℕ → Piece
+use Rattle.segments.specs.declared.Piece.{Piece}
+use Rattle.segments.specs.declared.Piece.TheVariants.{Finished as finished, Unfinished as unfinished}
 
 -- where a segment begins
 abbrev pub start_of : Piece → ℕ

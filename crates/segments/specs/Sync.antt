@@ -4,7 +4,9 @@ use Rattle.service.specs.declared.Service.{Service}
 use Rattle.segments.specs.declared.Class.{Class}
 use Rattle.segments.specs.declared.Class.TheVariants.{Plain, Comp, Elem, Rel, Term}
 use Rattle.segments.specs.Classes.{class_of}
-use Rattle.segments.specs.SegmentList.{Piece, finished, unfinished, Mode, after}
+use Rattle.segments.specs.declared.Piece.{Piece}
+use Rattle.segments.specs.declared.Piece.TheVariants.{Finished as finished, Unfinished as unfinished}
+use Rattle.segments.specs.SegmentList.{Mode, after}
 
 -- where the byte after a text stands: `gap` where the text leaves nothing open
 unfoldable pub run : Service → Mode → List ℕ → Mode

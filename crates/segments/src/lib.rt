@@ -2,15 +2,18 @@
 #![tactic(auto)]
 
 ghost use Rattle.std.specs.Prelude.{◌≡◌, false, ◌+◌, ◌<◌, ◌≤◌, eqb, length, drop};
-ghost use Rattle.std.specs.Int.Count.{count_trailing_zeros};
-ghost use Rattle.segments.specs.Classes.{class_of};
+ghost use Rattle.segments.specs.Classes.{class_of, is_break};
 ghost use Rattle.segments.specs.Forms.Bytes.{release_of, follows_release, end_from, past_breaks};
-ghost use Rattle.segments.specs.Forms.Find.{first_of, eight, any_of, digit, marks_of};
+ghost use Rattle.segments.specs.Forms.Find.{first_of};
 ghost use Rattle.segments.specs.Forms.Segments.{segment_at};
+ghost use Rattle.std.specs.Iterator.{item_count};
+ghost use Rattle.segments.specs.Left.{segments_left, Steps};
+ghost use Rattle.segments.specs.SegmentList.{start_of, segments_from};
 
+use memchr::memchr;
 use service::Service;
 
-#[derive(Clone, Copy)]
+#[derive(Clone, Copy, Debug, PartialEq, Eq)]
 pub enum Class {
     Plain,
     Comp,
@@ -19,13 +22,8 @@ pub enum Class {
     Term,
 }
 
-#[derive(Clone, Copy)]
-pub enum End {
-    At(usize),
-    None,
-}
-
-#[derive(Clone, Copy)]
+// What stands at a position. The reader `Segments` gives an Option of a `Piece`; here the case of no byte stands beside the others, as in the definitions.
+#[derive(Clone, Copy, Debug, PartialEq, Eq)]
 pub enum Segment {
     // A segment with its terminator at the first place, and the next one, if any, at the second.
     Finished(usize, usize),
@@ -34,204 +32,194 @@ pub enum Segment {
     Nothing,
 }
 
+// A segment from its first byte to its terminator, or to the end of the bytes where no terminator ends it.
+#[derive(Clone, Copy, Debug, PartialEq, Eq)]
+pub enum Piece {
+    Finished(usize, usize),
+    Unfinished(usize, usize),
+}
+
+impl Piece {
+    pub fn start(self) -> usize
+        ensures { result ≡ start_of self }
+    {
+        match self {
+            Piece::Finished(start, _) | Piece::Unfinished(start, _) => start,
+        }
+    }
+}
+
+// The bytes of a text with the characters that serve it.
+#[derive(Clone, Copy)]
+pub struct Text<'a> {
+    pub bytes: &'a [u8],
+    pub service: Service,
+}
+
+impl<'a> Text<'a> {
+    // The segments from the one that begins at `at`.
+    pub fn segments(self, at: usize) -> Segments<'a>
+        ensures left { segments_left result ≡ segments_from self.entry.service self.entry.bytes.now at }
+        ensures text { result.text ≡ self.entry }
+        ensures at { result.at ≡ at }
+    {
+        Segments { text: self, at }
+    }
+}
+
 // What a byte is, where no release stands before it.
 #[tactic(auto, unfolding(crate::specs::Classes::class_of))]
 pub fn classify(v: Service, b: u8) -> Class
     ensures { result ≡ class_of v b }
 {
     if b == v.terminator {
-        return Class::Term;
+        Class::Term
+    } else if b == v.element {
+        Class::Elem
+    } else if b == v.component {
+        Class::Comp
+    } else if v.releases && b == v.release {
+        Class::Rel
+    } else {
+        Class::Plain
     }
-    if b == v.element {
-        return Class::Elem;
-    }
-    if b == v.component {
-        return Class::Comp;
-    }
-    let on = v.releases;
-    if on {
-        if b == v.release {
-            return Class::Rel;
-        }
-    }
-    Class::Plain
 }
 
 // What an unreleased byte that is no terminator equals exactly if it is a release: the terminator itself, where there is none.
-#[tactic(auto, using(crate::specs::Laws::BytesLaws::release_rel, crate::proofs::Laws::release_other))]
+#[tactic(auto, unfolding(crate::specs::Forms::Bytes::release_of))]
 fn release_of(v: Service) -> u8
     ensures { result ≡ release_of v }
 {
-    let k = classify(v, v.release);
-    match k {
-        Class::Rel => v.release,
-        _ => v.terminator,
+    if classify(v, v.release) == Class::Rel {
+        v.release
+    } else {
+        v.terminator
     }
 }
 
-// 1 where two bytes are the same, else 0.
-fn one(b: u8, x: u8) -> u32
-    ensures { (result ≡ digit (eqb b x)) × (result ≤ 1) }
-{
-    (b == x) as u32
-}
-
-// Whether one of the eight bytes at `i` is `x`.
-fn met(s: &[u8], i: usize, x: u8) -> bool
-    requires { i + 8 ≤ length s.now }
-    ensures { result ≡ any_of x false (eight i s.now) }
-{
-    (s[i] == x)
-        | (s[i + 1] == x)
-        | (s[i + 2] == x)
-        | (s[i + 3] == x)
-        | (s[i + 4] == x)
-        | (s[i + 5] == x)
-        | (s[i + 6] == x)
-        | (s[i + 7] == x)
-}
-
-// The eight bytes at `i` as binary digits, set where a byte is `x`, the first one lowest.
-fn marks(s: &[u8], i: usize, x: u8) -> u32
-    requires { i + 8 ≤ length s.now }
-    ensures { result ≡ marks_of x (eight i s.now) }
-{
-    one(s[i], x)
-        + 2 * one(s[i + 1], x)
-        + 4 * one(s[i + 2], x)
-        + 8 * one(s[i + 3], x)
-        + 16 * one(s[i + 4], x)
-        + 32 * one(s[i + 5], x)
-        + 64 * one(s[i + 6], x)
-        + 128 * one(s[i + 7], x)
-}
-
-// How many digits of a number stand below its lowest set one.
-fn below(m: u32) -> usize
-    ensures { result ≡ count_trailing_zeros 32 m }
-{
-    u32::trailing_zeros(m) as usize
-}
-
-// Eight bytes at a time, up to the first byte that is `x` or to the last few: what is found from there is what is found from `at`.
-#[tactic(auto, using(crate::specs::Laws::FindLaws::first_eight, crate::specs::Laws::FindLaws::first_met, crate::specs::Laws::FindLaws::met_fits))]
-fn eights(s: &[u8], at: usize, x: u8) -> usize
-    ensures { first_of x at (drop at s.now) ≡ first_of x result (drop result s.now) }
-{
-    if s.len() < 8 {
-        return at;
-    }
-    let last = s.len() - 8;
-    let mut i = at;
-    while i <= last {
-        if met(s, i, x) {
-            return i + below(marks(s, i, x));
-        }
-        i += 8;
-    }
-    i
-}
-
-// The first index at or after `at` whose byte is `x`; where there is none, an index at or past the end.
-#[tactic(auto, using(crate::specs::Laws::FindLaws::first_none, crate::specs::Laws::FindLaws::first_here, crate::specs::Laws::FindLaws::first_on))]
+// The first index at or after `at` whose byte is `x`; where there is none, an index at or past the end. An index and no Option, as `first_of` of the
+// definitions gives it.
+#[tactic(auto, using(crate::specs::Laws::FindLaws::first_found, crate::specs::Laws::FindLaws::first_nowhere, crate::specs::Laws::FindLaws::first_past, crate::specs::Laws::FindLaws::found_fits))]
 fn find(s: &[u8], at: usize, x: u8) -> usize
     ensures { result ≡ first_of x at (drop at s.now) }
 {
-    let mut i = eights(s, at, x);
-    while i < s.len() {
-        if s[i] == x {
-            return i;
+    if at < s.len() {
+        match memchr(x, &s[at..]) {
+            Some(k) => at + k,
+            None => s.len(),
         }
-        i += 1;
+    } else {
+        at
     }
-    i
 }
 
 // The first unreleased terminator at or after `at`, byte by byte.
-#[tactic(auto, using(crate::specs::Laws::BytesLaws::end_none, crate::specs::Laws::BytesLaws::end_term, crate::specs::Laws::BytesLaws::end_rel, crate::specs::Laws::BytesLaws::end_on))]
-fn slow_end(s: &[u8], at: usize, v: Service) -> End
-    ensures { result ≡ end_from v false at (drop at s.now) }
+#[tactic(auto, using(crate::specs::Laws::BytesLaws::end_none, crate::specs::Laws::BytesLaws::end_held, crate::specs::Laws::BytesLaws::end_term, crate::specs::Laws::BytesLaws::end_on))]
+fn slow_end(text: Text<'_>, at: usize) -> Option<usize>
+    ensures { result ≡ end_from text.entry.service false at (drop at text.entry.bytes.now) }
 {
-    let release = release_of(v);
-    let mut i = at;
-    while i < s.len() {
-        let b = s[i];
-        let terminator = v.terminator;
-        if b == terminator {
-            return End::At(i);
+    let release = release_of(text.service);
+    let mut released = false;
+    for i in at..text.bytes.len() {
+        if released {
+            released = false;
+            continue;
         }
-        if b == release {
-            i += 2;
-        } else {
-            i += 1;
+        let b = text.bytes[i];
+        if b == text.service.terminator {
+            return Some(i);
         }
+        released = b == release;
     }
-    End::None
+    None
 }
 
 // Whether the byte before `p`, at or after `at`, is the one named as the release: if not, the byte at `p` is not released.
-#[tactic(auto, using(crate::specs::Laws::BytesLaws::follows_near, crate::specs::Laws::BytesLaws::follows_far))]
-fn follows_release(s: &[u8], at: usize, p: usize, v: Service) -> bool
-    requires { p < length s.now }
-    ensures { result ≡ follows_release v at p s.now }
+#[tactic(auto, unfolding(crate::specs::Forms::Bytes::follows_release))]
+fn follows_release(text: Text<'_>, at: usize, p: usize) -> bool
+    requires { p < length text.bytes.now }
+    ensures { result ≡ follows_release text.entry.service at p text.entry.bytes.now }
 {
-    if at < p {
-        let before = p - 1;
-        return s[before] == v.release;
-    }
-    false
+    at < p && text.bytes[p - 1] == text.service.release
 }
 
 // The first unreleased terminator at or after `at`.
 #[tactic(auto, using(crate::specs::Laws::FindLaws::end_nowhere, crate::specs::Laws::FindLaws::end_first))]
-fn segment_end(s: &[u8], at: usize, v: Service) -> End
-    ensures { result ≡ end_from v false at (drop at s.now) }
+fn segment_end(text: Text<'_>, at: usize) -> Option<usize>
+    ensures { result ≡ end_from text.entry.service false at (drop at text.entry.bytes.now) }
 {
-    let p = find(s, at, v.terminator);
-    if p < s.len() {
-        if follows_release(s, at, p, v) {
-            return slow_end(s, at, v);
+    let p = find(text.bytes, at, text.service.terminator);
+    if p < text.bytes.len() {
+        if follows_release(text, at, p) {
+            return slow_end(text, at);
         }
-        return End::At(p);
+        return Some(p);
     }
-    End::None
+    None
+}
+
+// CR or LF.
+#[tactic(auto, unfolding(crate::specs::Classes::is_break))]
+pub fn is_break(b: u8) -> bool
+    ensures { result ≡ is_break b }
+{
+    b == b'\r' || b == b'\n'
 }
 
 // The first index at or after `at` that is no CR and no LF.
-#[tactic(auto, using(crate::specs::Laws::BytesLaws::breaks_cr, crate::specs::Laws::BytesLaws::breaks_lf, crate::specs::Laws::BytesLaws::breaks_end, crate::specs::Laws::BytesLaws::breaks_none))]
+#[tactic(auto, using(crate::specs::Laws::BytesLaws::breaks_on, crate::specs::Laws::BytesLaws::breaks_end, crate::specs::Laws::BytesLaws::breaks_none))]
 pub fn skip_breaks(s: &[u8], at: usize) -> usize
     ensures { result ≡ past_breaks at (drop at s.now) }
 {
-    let mut i = at;
-    while i < s.len() {
-        let b = s[i];
-        if b == 13 {
-            i += 1;
-        } else if b == 10 {
-            i += 1;
-        } else {
+    for i in at..s.len() {
+        if !is_break(s[i]) {
             return i;
         }
     }
-    i
+    at.max(s.len())
 }
 
 // The segment that begins at `at`.
 #[tactic(auto, using(crate::specs::Laws::SegmentsLaws::segment_nothing, crate::specs::Laws::SegmentsLaws::segment_unfinished, crate::specs::Laws::SegmentsLaws::segment_finished, crate::specs::Laws::SegmentsLaws::segment_fits))]
-pub fn segment_at(s: &[u8], at: usize, v: Service) -> Segment
-    ensures { result ≡ segment_at v at s.now }
+pub fn segment_at(text: Text<'_>, at: usize) -> Segment
+    ensures { result ≡ segment_at text.entry.service at text.entry.bytes.now }
 {
-    if at < s.len() {
-        let e = segment_end(s, at, v);
-        match e {
-            End::At(t) => {
-                let next = skip_breaks(s, t + 1);
-                return Segment::Finished(t, next);
+    if text.bytes.len() <= at {
+        return Segment::Nothing;
+    }
+    match segment_end(text, at) {
+        Some(end) => Segment::Finished(end, skip_breaks(text.bytes, end + 1)),
+        None => Segment::Unfinished,
+    }
+}
+
+// The segments of a text from the one that begins at `at`.
+#[derive(Clone, Copy)]
+pub struct Segments<'a> {
+    pub text: Text<'a>,
+    pub at: usize,
+}
+
+impl<'a> Iterator for Segments<'a> {
+    type Item = Piece;
+
+    ghost next_gives = { Steps };
+
+    ghost remaining = { item_count segments_left };
+
+    #[tactic(auto, using(crate::specs::Laws::ListLaws::list_nothing, crate::specs::Laws::ListLaws::list_finished, crate::specs::Laws::ListLaws::list_last, crate::specs::Laws::ListLaws::list_within))]
+    fn next(&mut self) -> Option<Piece> {
+        let start = self.at;
+        match segment_at(self.text, start) {
+            Segment::Finished(end, next) => {
+                self.at = next;
+                Some(Piece::Finished(start, end))
             }
-            End::None => {
-                return Segment::Unfinished;
+            Segment::Unfinished => {
+                self.at = self.text.bytes.len();
+                Some(Piece::Unfinished(start, self.at))
             }
+            Segment::Nothing => None,
         }
     }
-    Segment::Nothing
 }

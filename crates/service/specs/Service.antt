@@ -1,8 +1,7 @@
 -- The service characters of an interchange, as document 01, "Bytes to segments", says.
-use Rattle.std.specs.Prelude.{ℕ, ◌≡◌, List, [], ◌∷◌, Bool, true, false, not, ◌&&◌, ◌||◌, length, get_or, eqb, leb}
+use Rattle.std.specs.Prelude.{ℕ, ◌≡◌, List, [], ◌∷◌, Bool, true, false, not, ◌&&◌, ◌||◌, Option, Some, None, length, get_or, eqb, leb}
 use Rattle.service.specs.declared.Service.{Service}
 use Rattle.service.specs.declared.Characters.{Characters}
-use Rattle.service.specs.declared.Characters.TheVariants.{Fit, Unfit}
 use Rattle.service.specs.Tests.{if}
 
 -- "Without UNA they are `:` `+` `,` `?` space `'`." The mark serves no segment, so it is not kept.
@@ -51,12 +50,19 @@ fit c e m r p t =
     && (serves c && (serves e && (serves t && (is_none r || serves r))))
     && distinct (present_by (is_none r) c e m r t))
 
+-- the characters that serve an interchange, and the length of the UNA that names them, 9, or 0 without UNA; or none that a reader may go by
+abbrev pub Fit : Service → ℕ → Option Characters
+Fit v una = Some (record { service = v; una = una })
+
+pattern abbrev pub Unfit : Option Characters
+Unfit = None
+
 -- the characters that six bytes name
 abbrev pub service_of : ℕ → ℕ → ℕ → ℕ → Service
 service_of c e r t = record { component = c; element = e; release = r; releases = not (is_none r); terminator = t }
 
 -- "service characters break the rule above" (number 2) where they are not fit; UNA and they are nine bytes
-unfoldable pub named_by : ℕ → ℕ → ℕ → ℕ → ℕ → ℕ → Characters
+unfoldable pub named_by : ℕ → ℕ → ℕ → ℕ → ℕ → ℕ → Option Characters
 named_by c e m r p t = if (fit c e m r p t) (Fit (service_of c e r t) 9) Unfit
 
 -- what characters are that a reader may go by: each fit by itself, those present all different
@@ -83,7 +89,7 @@ begins_una s = eqb (get_or s 0 0) 85 && (eqb (get_or s 1 0) 78 && eqb (get_or s 
 
 -- "An interchange may begin with UNA and six bytes: component separator, element separator, decimal mark, release, a space, terminator."
 -- Fewer than six are cut short (number 2).
-unfoldable pub characters_of : List ℕ → Characters
+unfoldable pub characters_of : List ℕ → Option Characters
 characters_of s =
     if (begins_una s)
     (if (leb 9 (length s)) (named_by (get_or s 3 0) (get_or s 4 0) (get_or s 5 0) (get_or s 6 0) (get_or s 7 0) (get_or s 8 0)) Unfit)

@@ -1,19 +1,20 @@
--- A chart's table: what each row says, and the row as a line of numbers.
-use Rattle.std.specs.Prelude.{ℕ, suc, ◌+◌, ◌*◌, ◌/◌, ◌%◌, Bool, true, false, ◌||◌, List, [], ◌∷◌, ◌++◌, eqb, leb, get_or}
+-- A chart's table: what each row says, and the row as the code has it.
+use Rattle.std.specs.Prelude.{ℕ, suc, ◌+◌, ◌*◌, get_or, Bool, true, false, List, [], ◌∷◌, eqb, leb}
+use Rattle.service.specs.Tests.{if}
 use Prim.Native.Char.{Char, code}
 use Prim.Native.String.{String}
 unfoldable pub use Rattle.values.specs.Text.{text}
+use Rattle.table.specs.declared.Row.{Row}
+use Rattle.table.specs.declared.Status.{Status}
+use Rattle.table.specs.declared.Status.TheVariants.{Mandatory, Required, Dependent, Optional, NotUsed}
 
 -- 'one row per segment and group': tag (of a group, that of its first segment), parent, status, repeats
 pub data Entry : Type 0 where
   entry : (tag : String) (parent : ℕ) (status : Char) (repeats : ℕ) → Entry
 
--- 'Status is the D6 column (M and R required, N never, any other letter optional)'
-abbrev pub required : ℕ → Bool
-required s = eqb s (code "M") || eqb s (code "R")
-
-abbrev pub never : ℕ → Bool
-never s = eqb s (code "N")
+-- 'Status is the D6 column': a letter that is none of M, R, D and N is optional
+abbrev pub status_of : ℕ → Status
+status_of s = if (eqb s (code "M")) Mandatory (if (eqb s (code "R")) Required (if (eqb s (code "D")) Dependent (if (eqb s (code "N")) NotUsed Optional)))
 
 -- the parent of the message's own row
 abbrev pub outside : ℕ
@@ -28,27 +29,51 @@ unfoldable pub within : ℕ → List Entry → ℕ
 within r [] = 0
 within r (entry tag parent status repeats ∷ es) = more (leb r parent) (within r es)
 
--- the row as a line: the tag's letters, the parent, the first row past those inside it, the status, and the repeats in hundreds and ones
-abbrev pub line : Entry → ℕ → List ℕ
-line (entry tag parent status repeats) past = text tag ++ (parent ∷ past ∷ code status ∷ repeats / 100 ∷ repeats % 100 ∷ [])
+-- the row with the first row past those inside it
+abbrev pub row_to : Entry → ℕ → Row
+row_to (entry tag parent status repeats) past = record { tag = text tag; parent = parent; end = past; status = status_of (code status); most = repeats }
 
--- the lines of the rows from r on
-unfoldable pub lines_from : ℕ → List Entry → List (List ℕ)
+-- the rows from r on
+unfoldable pub lines_from : ℕ → List Entry → List Row
 lines_from r [] = []
-lines_from r (e ∷ es) = line e (suc r + within r es) ∷ lines_from (suc r) es
+lines_from r (e ∷ es) = row_to e (suc r + within r es) ∷ lines_from (suc r) es
 
--- a line's columns; the tag as a code: the digit 1, and then the letters, to the base 256
-abbrev pub tag_in : List ℕ → ℕ
-tag_in l = ((256 + get_or l 0 0) * 256 + get_or l 1 0) * 256 + get_or l 2 0
+-- 'M and R required, N never, any other letter optional'
+abbrev pub required : Status → Bool
+required Mandatory = true
+required Required = true
+required Dependent = false
+required Optional = false
+required NotUsed = false
 
-abbrev pub parent_in : List ℕ → ℕ
-parent_in l = get_or l 3 0
+abbrev pub never : Status → Bool
+never Mandatory = false
+never Required = false
+never Dependent = false
+never Optional = false
+never NotUsed = true
 
-abbrev pub end_in : List ℕ → ℕ
-end_in l = get_or l 4 0
+-- what a row says; the tag as a code: the digit 1, and then the letters, to the base 256
 
-abbrev pub status_in : List ℕ → ℕ
-status_in l = get_or l 5 0
+abbrev pub tag_in : Row → ℕ
+tag_in l = ((256 + get_or l.tag 0 0) * 256 + get_or l.tag 1 0) * 256 + get_or l.tag 2 0
 
-abbrev pub repeats_in : List ℕ → ℕ
-repeats_in l = get_or l 6 0 * 100 + get_or l 7 0
+abbrev pub parent_in : Row → ℕ
+parent_in l = l.parent
+
+abbrev pub end_in : Row → ℕ
+end_in l = l.end
+
+abbrev pub status_in : Row → Status
+status_in l = l.status
+
+abbrev pub repeats_in : Row → ℕ
+repeats_in l = l.most
+
+-- how often it may come: never, or its repeats
+abbrev pub most_in : Row → ℕ
+most_in l = if (never l.status) 0 l.most
+
+-- what stands past the table
+abbrev pub blank : Row
+blank = record { tag = []; parent = 0; end = 0; status = Optional; most = 0 }

@@ -1,61 +1,83 @@
-// What a line of a chart's table says: its tag's letters (of a group, those of its first segment), its parent, the first row past those
-// inside it, the letter of its status, and how often it may come, in hundreds and ones.
+// What a row of a chart says: its tag (of a group, that of its first segment), its parent, the first row past those inside it, its status, and how often it may come.
 #![tactic(auto)]
 
-pub const COLUMNS: usize = 8;
+ghost use Rattle.std.specs.Prelude.{◌≡◌};
+ghost use Rattle.table.specs.Entries.{tag_in, most_in, required as must};
 
-pub const PARENT: usize = 3;
+// The letters of the guides' column of a segment's or group's status: M, R, D, O and N.
+#[derive(Clone, Copy, Debug, PartialEq, Eq)]
+pub enum Status {
+    Optional,
+    Mandatory,
+    Required,
+    Dependent,
+    NotUsed,
+}
 
-pub const END: usize = 4;
+// Rows name one another by number, and not by reference: a constant table needs no heap, and `OUTSIDE` is past each table.
+#[derive(Clone, Copy, Debug, PartialEq, Eq)]
+pub struct Row {
+    pub tag: [u8; 3],
+    pub parent: u8,
+    pub end: u8,
+    pub status: Status,
+    pub most: u16,
+}
 
-pub const STATUS: usize = 5;
+impl Row {
+    // Its tag as a code.
+    pub fn code(self) -> u64
+        ensures { result ≡ tag_in self }
+    {
+        let [a, b, c] = self.tag;
+        ((256 + u64::from(a)) * 256 + u64::from(b)) * 256 + u64::from(c)
+    }
 
-pub const HUNDREDS: usize = 6;
+    // How often it may come: never, or its repeats.
+    pub fn most(self) -> usize
+        ensures { result ≡ most_in self }
+    {
+        match self.status {
+            Status::NotUsed => 0,
+            Status::Mandatory | Status::Required | Status::Dependent | Status::Optional =>
+                usize::from(self.most),
+        }
+    }
 
-pub const ONES: usize = 7;
+    // Whether it must come: M and R are required.
+    pub fn is_required(self) -> bool
+        ensures { result ≡ must self.status }
+    {
+        match self.status {
+            Status::Mandatory | Status::Required => true,
+            Status::Dependent | Status::Optional | Status::NotUsed => false,
+        }
+    }
+}
 
 // The parent of the message's own row.
 pub const OUTSIDE: u8 = 255;
 
-// The letters of tags and statuses.
-pub const A: u8 = 65;
+// Rows, each by its tag, its parent, the first row past those inside it, the letter of its status, and how often it may come.
+#[macro_export]
+macro_rules! rows {
+    ($([$tag:literal, $parent:expr, $end:literal, $status:ident, $most:literal],)*) => {
+        [$($crate::Row {
+            tag: *$tag,
+            parent: $parent,
+            end: $end,
+            status: $crate::status!($status),
+            most: $most,
+        }),*]
+    };
+}
 
-pub const B: u8 = 66;
-
-pub const C: u8 = 67;
-
-pub const D: u8 = 68;
-
-pub const E: u8 = 69;
-
-pub const F: u8 = 70;
-
-pub const G: u8 = 71;
-
-pub const H: u8 = 72;
-
-pub const I: u8 = 73;
-
-pub const J: u8 = 74;
-
-pub const L: u8 = 76;
-
-pub const M: u8 = 77;
-
-pub const N: u8 = 78;
-
-pub const O: u8 = 79;
-
-pub const P: u8 = 80;
-
-pub const Q: u8 = 81;
-
-pub const R: u8 = 82;
-
-pub const S: u8 = 83;
-
-pub const T: u8 = 84;
-
-pub const U: u8 = 85;
-
-pub const X: u8 = 88;
+// A status by its letter.
+#[macro_export]
+macro_rules! status {
+    (M) => { $crate::Status::Mandatory };
+    (R) => { $crate::Status::Required };
+    (D) => { $crate::Status::Dependent };
+    (O) => { $crate::Status::Optional };
+    (N) => { $crate::Status::NotUsed };
+}

@@ -1,6 +1,8 @@
 -- Which segment a byte stands in.
 use Rattle.std.specs.Prelude.{ℕ, suc, List, [], ◌∷◌, Bool, true, false, ltb}
-use Rattle.segments.specs.SegmentList.{Piece, finished, unfinished, start_of}
+use Rattle.segments.specs.declared.Piece.{Piece}
+use Rattle.segments.specs.declared.Piece.TheVariants.{Finished as finished, Unfinished as unfinished}
+use Rattle.segments.specs.SegmentList.{start_of}
 
 -- where the first of some segments begins, or, of none, the end of the text
 abbrev pub next_start : ℕ → List Piece → ℕ

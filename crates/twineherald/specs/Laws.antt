@@ -1,3 +1,4 @@
 pub mod FewLaws
+pub mod LentLaws
 pub mod NumbersLaws
 pub mod SeveralLaws

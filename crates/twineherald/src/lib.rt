@@ -1,21 +1,22 @@
 // The calls that C makes, by the crate twineherald_c: open, walk from one position or from several, check, close and rewrite on byte slices and numbers.
 #![tactic(auto)]
 
-ghost use Rattle.std.specs.Prelude.{◌≡◌, ◌%◌, ◌≤◌, length};
+ghost use Rattle.std.specs.Prelude.{◌≡◌, ◌≤◌, length};
 ghost use Rattle.lent.specs.Lists.{lists};
 ghost use Rattle.report.specs.Forms.Few.{Few, FewIn};
 ghost use Rattle.twineherald.specs.Numbers.{accepted_of, refused_of, report_of, nothing_of, step_with, step_of, OpenedWith, ClosedWith, Stepped, Checked, Rewritten};
 ghost use Rattle.twineherald.specs.Several.{numbers_of, Answered, AnsweredEach, SteppedEach};
 ghost use Rattle.twineherald.specs.Forms.Few.{FewWalked};
 
-use interchange::{Opening, Refusal};
-use report::{Counts, Report};
-use rewrite::Rewriting;
-use service::Characters;
+use interchange::Refusal;
+use lent::Lists;
+use numbers::Number;
+use report::Counts;
+use segments::Text;
 use walk::Walked;
 
 #[repr(C)]
-#[derive(Clone, Copy)]
+#[derive(Clone, Copy, Debug, PartialEq, Eq)]
 pub struct ReportNumbers {
     pub number: u32,
     pub segment: u32,
@@ -26,7 +27,7 @@ pub struct ReportNumbers {
 }
 
 #[repr(C)]
-#[derive(Clone, Copy)]
+#[derive(Clone, Copy, Debug, PartialEq, Eq)]
 pub struct StepNumbers {
     pub found: u32,
     pub start: u32,
@@ -35,7 +36,7 @@ pub struct StepNumbers {
 }
 
 #[repr(C)]
-#[derive(Clone, Copy)]
+#[derive(Clone, Copy, Debug, PartialEq, Eq)]
 pub struct ClosingNumbers {
     pub number: u32,
     pub messages: u32,
@@ -43,45 +44,40 @@ pub struct ClosingNumbers {
 }
 
 #[repr(C)]
-#[derive(Clone, Copy)]
+#[derive(Clone, Copy, Debug, PartialEq, Eq)]
 pub struct RewritingNumbers {
     pub number: u32,
     pub length: u32,
 }
 
-fn low32(x: u64) -> u32
-    ensures { result ≡ x % 4294967296 }
-{
-    (x % 4294967296) as u32
-}
+const NOTHING: ReportNumbers = ReportNumbers {
+    number: 0,
+    segment: 0,
+    offset: 0,
+    segments: 0,
+    orders: 0,
+    payments: 0,
+};
 
-fn refused(r: Refusal) -> ReportNumbers
-    ensures { result ≡ refused_of r }
-{
-    ReportNumbers {
-        number: r.number,
-        segment: r.segment,
-        offset: r.offset,
-        segments: 0,
-        orders: 0,
-        payments: 0,
+impl From<Refusal> for ReportNumbers {
+    ghost use Rattle.std.specs.Prelude.{◌≡◌};
+    ghost use Rattle.twineherald.specs.Numbers.{refused_of};
+
+    ghost from_gives = { λ r n. n ≡ refused_of r };
+
+    fn from(r: Refusal) -> Self {
+        ReportNumbers {
+            number: u32::from(r.number),
+            segment: r.segment,
+            offset: r.offset,
+            segments: 0,
+            orders: 0,
+            payments: 0,
+        }
     }
 }
 
-fn nothing() -> ReportNumbers
-    ensures { result ≡ nothing_of }
-{
-    ReportNumbers {
-        number: 0,
-        segment: 0,
-        offset: 0,
-        segments: 0,
-        orders: 0,
-        payments: 0,
-    }
-}
-
-#[tactic(auto, using(crate::specs::Laws::NumbersLaws::accepted_by))]
+// No From: only few counts fit. Here and below `as` is of numbers that a contract shows to fit: `TryFrom` would add an Err that never comes.
 fn accepted(c: Counts) -> ReportNumbers
     requires { Few c }
     ensures { result ≡ accepted_of c }
@@ -90,24 +86,23 @@ fn accepted(c: Counts) -> ReportNumbers
         number: 0,
         segment: 0,
         offset: 0,
-        segments: lent::low32(c.segments),
-        orders: lent::low32(c.orders),
-        payments: lent::low32(c.payments),
+        segments: c.segments as u32,
+        orders: c.orders as u32,
+        payments: c.payments as u32,
     }
 }
 
 #[tactic(auto, using(report::specs::Laws::FewLaws::accepted_few, crate::specs::Laws::NumbersLaws::report_accepted, crate::specs::Laws::NumbersLaws::report_refused))]
-fn report_numbers(r: Report) -> ReportNumbers
+fn report_numbers(r: Result<Counts, Refusal>) -> ReportNumbers
     requires { FewIn r }
     ensures { result ≡ report_of r }
 {
     match r {
-        Report::Accepted(c) => accepted(c),
-        Report::Refused(f) => refused(f),
+        Ok(c) => accepted(c),
+        Err(f) => ReportNumbers::from(f),
     }
 }
 
-#[tactic(auto, using(crate::specs::Laws::NumbersLaws::step_by_lem))]
 fn step_numbers(found: u32, start: usize, end: usize, r: ReportNumbers) -> StepNumbers
     requires start_bound { start ≤ 1048576 }
     requires end_bound { end ≤ 1048576 }
@@ -115,24 +110,25 @@ fn step_numbers(found: u32, start: usize, end: usize, r: ReportNumbers) -> StepN
 {
     StepNumbers {
         found,
-        start: lent::low32(start),
-        end: lent::low32(end),
+        start: start as u32,
+        end: end as u32,
         report: r,
     }
 }
 
 #[tactic(auto, using(crate::specs::Laws::FewLaws::start_small, crate::specs::Laws::FewLaws::end_small, crate::specs::Laws::FewLaws::counts_few, crate::specs::Laws::NumbersLaws::step_message, crate::specs::Laws::NumbersLaws::step_nothing, crate::specs::Laws::NumbersLaws::step_refused))]
-fn step_of(w: Walked) -> StepNumbers
+fn step_of(w: Result<Option<Walked>, Refusal>) -> StepNumbers
     requires { FewWalked w }
     ensures { result ≡ step_of w }
 {
     match w {
-        Walked::Message(start, end, r) => step_numbers(1, start, end, report_numbers(r)),
-        Walked::Nothing => step_numbers(0, 0, 0, nothing()),
-        Walked::Refused(f) => step_numbers(0, 0, 0, refused(f)),
+        Ok(Some(m)) => step_numbers(1, m.start, m.end, report_numbers(m.report)),
+        Ok(None) => step_numbers(0, 0, 0, NOTHING),
+        Err(f) => step_numbers(0, 0, 0, ReportNumbers::from(f)),
     }
 }
 
+// No From: an array does not say which nine numbers it holds, and this name does.
 fn numbers_of(y: StepNumbers) -> [u32; 9]
     ensures { result ≡ numbers_of y }
 {
@@ -154,11 +150,9 @@ fn answer_each(bytes: &[u8], positions: &[usize], answers: &mut [[u32; 9]])
     requires { length positions.now ≤ length answers.old }
     ensures { AnsweredEach bytes.now positions.now answers.old answers.new }
 {
-    let mut i = 0;
-    while i < positions.len() {
-        let at = positions[i];
-        answers[i] = answer_at(bytes, at);
-        i += 1;
+    // No `zip`: it would end in silence where the answers end; an index has to be shown to be within.
+    for i in 0..positions.len() {
+        answers[i] = answer_at(bytes, positions[i]);
     }
 }
 
@@ -166,10 +160,9 @@ fn answer_each(bytes: &[u8], positions: &[usize], answers: &mut [[u32; 9]])
 pub fn twineherald_open(bytes: &[u8]) -> u32
     ensures { OpenedWith bytes.now result }
 {
-    let o = interchange::open(bytes);
-    match o {
-        Opening::Opens(_, _) => 0,
-        Opening::Refused(r) => r.number,
+    match interchange::open(bytes) {
+        Ok(_) => 0,
+        Err(r) => u32::from(r.number),
     }
 }
 
@@ -183,7 +176,12 @@ pub fn twineherald_walk(
 ) -> StepNumbers
     ensures { Stepped bytes.now at (lists rows.old starts.old totals.old) (lists rows.new starts.new totals.new) result }
 {
-    step_of(walk::walk(bytes, at, rows, starts, totals))
+    let mut lists = Lists {
+        rows,
+        starts,
+        totals,
+    };
+    step_of(walk::walk(bytes, at, &mut lists))
 }
 
 #[tactic(auto, using(crate::specs::Laws::SeveralLaws::each_short, crate::specs::Laws::SeveralLaws::each_given))]
@@ -191,7 +189,7 @@ pub fn twineherald_walk_each(bytes: &[u8], positions: &[usize], answers: &mut [[
     ensures { SteppedEach bytes.now positions.now answers.old answers.new result }
 {
     if answers.len() < positions.len() {
-        return 14;
+        return u32::from(Number::Lists);
     }
     answer_each(bytes, positions, answers);
     0
@@ -207,40 +205,52 @@ pub fn twineherald_check(
 ) -> ReportNumbers
     ensures { Checked head.now message.now (lists rows.old starts.old totals.old) (lists rows.new starts.new totals.new) result }
 {
-    let c = service::characters_of(head);
-    match c {
-        Characters::Fit(v, _) => {
-            let r = report::check(message, v, rows, starts, totals);
-            report_numbers(r)
+    match service::characters_of(head) {
+        Some(c) => {
+            let text = Text {
+                bytes: message,
+                service: c.service,
+            };
+            let mut lists = Lists {
+                rows,
+                starts,
+                totals,
+            };
+            report_numbers(report::check(text, &mut lists))
         }
-        Characters::Unfit => refused(interchange::refuse(2)),
+        None => ReportNumbers::from(interchange::refuse(Number::Characters)),
     }
 }
 
-#[tactic(auto, using(crate::specs::Laws::NumbersLaws::closing_by_lem))]
+#[tactic(auto, using(crate::specs::Laws::NumbersLaws::messages_small, crate::specs::Laws::NumbersLaws::strays_small, crate::specs::Laws::NumbersLaws::closing_by_lem, crate::specs::Laws::NumbersLaws::closing_refused))]
 pub fn twineherald_close(bytes: &[u8]) -> ClosingNumbers
     ensures { ClosedWith bytes.now result }
 {
-    let c = interchange::close(bytes);
-    ClosingNumbers {
-        number: c.number,
-        messages: low32(c.messages),
-        strays: low32(c.strays),
+    match interchange::close(bytes) {
+        Ok(c) => ClosingNumbers {
+            number: numbers::told(c.fault),
+            messages: c.messages as u32,
+            strays: c.strays as u32,
+        },
+        Err(r) => ClosingNumbers {
+            number: u32::from(r.number),
+            messages: 0,
+            strays: 0,
+        },
     }
 }
 
-#[tactic(auto, using(crate::specs::Laws::NumbersLaws::written_by, crate::specs::Laws::NumbersLaws::refused_by))]
+#[tactic(auto, using(crate::specs::Laws::NumbersLaws::written_small, crate::specs::Laws::NumbersLaws::written_by, crate::specs::Laws::NumbersLaws::refused_by))]
 pub fn twineherald_rewrite(bytes: &[u8], room: &mut [u8]) -> RewritingNumbers
     ensures { Rewritten bytes.now result room.old room.new }
 {
-    let r = rewrite::rewrite(bytes, room);
-    match r {
-        Rewriting::Written(n) => RewritingNumbers {
+    match rewrite::rewrite(bytes, room) {
+        Ok(n) => RewritingNumbers {
             number: 0,
-            length: lent::low32(n),
+            length: n as u32,
         },
-        Rewriting::Refused(r) => RewritingNumbers {
-            number: r.number,
+        Err(r) => RewritingNumbers {
+            number: u32::from(r.number),
             length: 0,
         },
     }

@@ -2,7 +2,8 @@
 use Rattle.std.specs.Prelude.{ℕ, ◌+◌, ◌≡◌, [], ◌∷◌, false}
 use Prim.Native.String.{String}
 use Rattle.service.specs.Service.{plain_service}
-use Rattle.segments.specs.SegmentList.{finished, segments_from}
+use Rattle.segments.specs.declared.Piece.TheVariants.{Finished as finished}
+use Rattle.segments.specs.SegmentList.{segments_from}
 use Rattle.parts.specs.Parts.{lex, elements}
 use Rattle.values.specs.Amounts.{AmountIs}
 use Rattle.values.specs.Text.{text}

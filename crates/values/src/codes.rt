@@ -1,85 +1,82 @@
-// Codes of the values that a function asks for, as `code_at` gives them: the digit 1, then two hexadecimal digits for each byte.
-// A constant is named for the letters of its value; a comment has those that begin with a digit.
+// Codes of the values that a function asks for, as `code_at` gives them: the digit 1, and then the bytes, to the base 256.
+// A value with a release in it is no slice of the bytes, so values are compared by their codes. A constant is named for the letters of its value, or for the number that it writes.
+
+// The code of the letters, of which there are seven at most.
+macro_rules! code {
+    ($($letter:literal)*) => {
+        code!(@onto 1, $($letter)*)
+    };
+    (@onto $code:expr,) => {
+        $code
+    };
+    (@onto $code:expr, $letter:literal $($more:literal)*) => {
+        code!(@onto $code * 256 + $letter as u64, $($more)*)
+    };
+}
 
 // The value of no byte.
-pub const EMPTY: u64 = 0x1;
+pub const EMPTY: u64 = code!();
 
-pub const UNB: u64 = 0x1_55_4e_42;
+pub const UNB: u64 = code!(b'U' b'N' b'B');
 
-pub const UNH: u64 = 0x1_55_4e_48;
+pub const UNH: u64 = code!(b'U' b'N' b'H');
 
-pub const UNT: u64 = 0x1_55_4e_54;
+pub const UNT: u64 = code!(b'U' b'N' b'T');
 
-pub const UNZ: u64 = 0x1_55_4e_5a;
+pub const UNZ: u64 = code!(b'U' b'N' b'Z');
 
-pub const LIN: u64 = 0x1_4c_49_4e;
+pub const LIN: u64 = code!(b'L' b'I' b'N');
 
-pub const SEQ: u64 = 0x1_53_45_51;
+pub const SEQ: u64 = code!(b'S' b'E' b'Q');
 
-pub const PAYMUL: u64 = 0x1_50_41_59_4d_55_4c;
+pub const PAYMUL: u64 = code!(b'P' b'A' b'Y' b'M' b'U' b'L');
 
-pub const DEBMUL: u64 = 0x1_44_45_42_4d_55_4c;
+pub const DEBMUL: u64 = code!(b'D' b'E' b'B' b'M' b'U' b'L');
 
-pub const D: u64 = 0x1_44;
+pub const D: u64 = code!(b'D');
 
-// 96A
-pub const NINETY_SIX_A: u64 = 0x1_39_36_41;
+pub const NINETY_SIX_A: u64 = code!(b'9' b'6' b'A');
 
-pub const UN: u64 = 0x1_55_4e;
+pub const UN: u64 = code!(b'U' b'N');
 
-pub const OR: u64 = 0x1_4f_52;
+pub const OR: u64 = code!(b'O' b'R');
 
-pub const PL: u64 = 0x1_50_4c;
+pub const PL: u64 = code!(b'P' b'L');
 
-pub const OY: u64 = 0x1_4f_59;
+pub const OY: u64 = code!(b'O' b'Y');
 
-pub const BF: u64 = 0x1_42_46;
+pub const BF: u64 = code!(b'B' b'F');
 
-pub const PE: u64 = 0x1_50_45;
+pub const PE: u64 = code!(b'P' b'E');
 
-pub const BE: u64 = 0x1_42_45;
+pub const BE: u64 = code!(b'B' b'E');
 
-// 1
-pub const ONE: u64 = 0x1_31;
+pub const ONE: u64 = code!(b'1');
 
-// 2
-pub const TWO: u64 = 0x1_32;
+pub const TWO: u64 = code!(b'2');
 
-// 3
-pub const THREE: u64 = 0x1_33;
+pub const THREE: u64 = code!(b'3');
 
-// 8
-pub const EIGHT: u64 = 0x1_38;
+pub const EIGHT: u64 = code!(b'8');
 
-// 9
-pub const NINE: u64 = 0x1_39;
+pub const NINE: u64 = code!(b'9');
 
-// 10
-pub const TEN: u64 = 0x1_31_30;
+pub const TEN: u64 = code!(b'1' b'0');
 
-// 11
-pub const ELEVEN: u64 = 0x1_31_31;
+pub const ELEVEN: u64 = code!(b'1' b'1');
 
-// 57
-pub const FIFTY_SEVEN: u64 = 0x1_35_37;
+pub const FIFTY_SEVEN: u64 = code!(b'5' b'7');
 
-// 100
-pub const HUNDRED: u64 = 0x1_31_30_30;
+pub const HUNDRED: u64 = code!(b'1' b'0' b'0');
 
-// 1000
-pub const THOUSAND: u64 = 0x1_31_30_30_30;
+pub const THOUSAND: u64 = code!(b'1' b'0' b'0' b'0');
 
-// 106
-pub const HUNDRED_SIX: u64 = 0x1_31_30_36;
+pub const HUNDRED_SIX: u64 = code!(b'1' b'0' b'6');
 
-// 202
-pub const TWO_HUNDRED_TWO: u64 = 0x1_32_30_32;
+pub const TWO_HUNDRED_TWO: u64 = code!(b'2' b'0' b'2');
 
-// 209
-pub const TWO_HUNDRED_NINE: u64 = 0x1_32_30_39;
+pub const TWO_HUNDRED_NINE: u64 = code!(b'2' b'0' b'9');
 
-// 342
-pub const THREE_HUNDRED_FORTY_TWO: u64 = 0x1_33_34_32;
+pub const THREE_HUNDRED_FORTY_TWO: u64 = code!(b'3' b'4' b'2');
 
-// 455
-pub const FOUR_HUNDRED_FIFTY_FIVE: u64 = 0x1_34_35_35;
+pub const FOUR_HUNDRED_FIFTY_FIVE: u64 = code!(b'4' b'5' b'5');

@@ -1,5 +1,4 @@
 pub mod FrameLaws
 pub mod JudgesLaws
 pub mod PlaceLaws
-pub mod SeeksLaws
 pub mod WalksLaws

@@ -1,4 +1,4 @@
 pub mod Frame
+pub mod Steps
 pub mod Walks
-pub mod Forms
 pub mod Laws

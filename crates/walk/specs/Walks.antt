@@ -1,15 +1,15 @@
 -- A step of the walk with its report: "one call finds the next message from there, checks it and, whether or not the message is refused, gives its start and its end".
 use Rattle.std.specs.Prelude.{ℕ, ◌-◌, ◌≡◌, List, take, drop}
 use Rattle.service.specs.declared.Service.{Service}
-use Rattle.service.specs.declared.Characters.TheVariants.{Fit}
+use Rattle.service.specs.Service.{Fit}
 use Rattle.service.specs.Service.{characters_of}
 use Rattle.interchange.specs.declared.Refusal.{Refusal}
 use Rattle.lent.specs.Lists.{Lists}
-use Rattle.report.specs.declared.Report.{Report}
+use Rattle.report.specs.Answers.{Report}
 use Rattle.report.specs.Reported.{Reported}
 use Rattle.report.specs.Judged.{Enough}
-use Rattle.walk.specs.declared.Walked.{Walked}
-use Rattle.walk.specs.declared.Walked.TheVariants as walked
+use Rattle.walk.specs.Steps.{Walked}
+use Rattle.walk.specs.Steps as walked
 use Rattle.walk.specs.Frame.{message, nothing, refused, step_from}
 
 -- "The bytes of a found message are handed on as a part of the interchange": from a up to but excluding e

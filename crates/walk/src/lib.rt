@@ -1,89 +1,77 @@
 // The next message of an interchange from any position, found and judged.
 #![tactic(auto)]
 
-ghost use Rattle.lent.specs.Lists.{lists};
+ghost use Rattle.std.specs.Prelude.{◌≡◌};
+ghost use Rattle.lent.specs.Lent.{lent, SameLists};
+ghost use Rattle.walk.specs.Frame.{step_at};
 ghost use Rattle.walk.specs.Walks.{Walks, Judges};
-ghost use Rattle.walk.specs.Forms.Sought.{SeeksWith, Seeks};
 
-use interchange::{Found, Refusal};
-use report::Report;
-use service::{Characters, Service};
+use interchange::{Refusal, Span};
+use lent::Lists;
+use numbers::Number;
+use report::Counts;
+use segments::Text;
 
-#[derive(Clone, Copy)]
-pub enum Walked {
-    // A message from its first byte up to but excluding the second place, which is the next position, and its report.
-    Message(usize, usize, Report),
-    // No message is left.
-    Nothing,
-    Refused(Refusal),
-}
-
-// Where the next message lies, with the characters that it is read by.
-#[derive(Clone, Copy)]
-enum Sought {
-    Message(Service, usize, usize),
-    Nothing,
-    Refused(Refusal),
-}
-
-#[tactic(auto, using(crate::specs::Laws::SeeksLaws::finds_past, crate::specs::Laws::SeeksLaws::finds_message, crate::specs::Laws::SeeksLaws::finds_nothing, crate::specs::Laws::SeeksLaws::finds_unfinished))]
-fn seek_with(s: &[u8], at: usize, v: Service) -> Sought
-    ensures { SeeksWith v s.now at result }
-{
-    if s.len() < at {
-        return Sought::Refused(interchange::refuse(8));
-    }
-    let f = interchange::find(s, at, v);
-    match f {
-        Found::Message(from, to) => Sought::Message(v, from, to),
-        Found::Nothing => Sought::Nothing,
-        Found::Unfinished => Sought::Refused(interchange::refuse(4)),
-    }
+// A message from its first byte up to but excluding its end, which is the next position, and its report.
+// `start` and `end`, with no `Span`: the definition `Message` of the steps, the theorems on it and the callers name them so.
+#[derive(Clone, Copy, Debug, PartialEq, Eq)]
+pub struct Walked {
+    pub start: usize,
+    pub end: usize,
+    pub report: Result<Counts, Refusal>,
 }
 
 // Finds the next message from the position `at` on.
-#[tactic(auto, using(crate::specs::Laws::SeeksLaws::seek_long, crate::specs::Laws::SeeksLaws::seek_fit, crate::specs::Laws::SeeksLaws::seek_unfit))]
-fn seek(s: &[u8], at: usize) -> Sought
-    ensures { Seeks s.now at result }
+#[tactic(auto, using(crate::specs::Laws::FrameLaws::step_past, crate::specs::Laws::FrameLaws::step_found))]
+fn seek(text: Text<'_>, at: usize) -> Result<Option<Span>, Refusal>
+    ensures { result ≡ step_at text.entry.service text.entry.bytes.now at }
 {
-    if interchange::MOST < s.len() {
-        return Sought::Refused(interchange::refuse(1));
+    if text.bytes.len() < at {
+        return Err(interchange::refuse(Number::Position));
     }
-    let c = service::characters_of(s);
-    match c {
-        Characters::Fit(v, _) => seek_with(s, at, v),
-        Characters::Unfit => Sought::Refused(interchange::refuse(2)),
-    }
+    interchange::find(text, at)
 }
 
 // Finds the next message from the position `at` on, and checks it.
-#[tactic(auto, using(crate::specs::Laws::SeeksLaws::part_order, crate::specs::Laws::SeeksLaws::part_within, crate::specs::Laws::WalksLaws::walk_message, crate::specs::Laws::WalksLaws::walk_nothing, crate::specs::Laws::WalksLaws::walk_refused))]
-pub fn walk(s: &[u8], at: usize, rows: &mut [u16], starts: &mut [u32], totals: &mut [u64]) -> Walked
-    ensures { Walks s.now at (lists rows.old starts.old totals.old) (lists rows.new starts.new totals.new) result }
+#[tactic(auto, using(crate::specs::Laws::PlaceLaws::part_order, crate::specs::Laws::PlaceLaws::part_within, crate::specs::Laws::WalksLaws::walk_unread, crate::specs::Laws::WalksLaws::walk_message, crate::specs::Laws::WalksLaws::walk_nothing, crate::specs::Laws::WalksLaws::walk_refused))]
+pub fn walk(s: &[u8], at: usize, lists: &mut Lists<'_>) -> Result<Option<Walked>, Refusal>
+    ensures walks { Walks s.now at (lent lists.old) (lent lists.new) result }
+    ensures same_references { SameLists lists.old lists.new }
 {
-    let f = seek(s, at);
-    match f {
-        Sought::Message(v, from, to) => {
-            let r = report::check(&s[from..to], v, rows, starts, totals);
-            Walked::Message(from, to, r)
-        }
-        Sought::Nothing => Walked::Nothing,
-        Sought::Refused(e) => Walked::Refused(e),
-    }
+    let service = interchange::characters_of(s)?.service;
+    let Some(span) = seek(Text { bytes: s, service }, at)? else {
+        return Ok(None);
+    };
+    let message = Text {
+        bytes: &s[span.start..span.end],
+        service,
+    };
+    let report = report::check(message, lists);
+    Ok(Some(Walked {
+        start: span.start,
+        end: span.end,
+        report,
+    }))
 }
 
 // Finds the next message from the position `at` on, and judges it as if every list were long enough.
-#[tactic(auto, using(crate::specs::Laws::SeeksLaws::part_order, crate::specs::Laws::SeeksLaws::part_within, crate::specs::Laws::JudgesLaws::judge_message, crate::specs::Laws::JudgesLaws::judge_nothing, crate::specs::Laws::JudgesLaws::judge_refused))]
-pub fn judge(s: &[u8], at: usize) -> Walked
+#[tactic(auto, using(crate::specs::Laws::PlaceLaws::part_order, crate::specs::Laws::PlaceLaws::part_within, crate::specs::Laws::JudgesLaws::judge_unread, crate::specs::Laws::JudgesLaws::judge_message, crate::specs::Laws::JudgesLaws::judge_nothing, crate::specs::Laws::JudgesLaws::judge_refused))]
+pub fn judge(s: &[u8], at: usize) -> Result<Option<Walked>, Refusal>
     ensures { Judges s.now at result }
 {
-    let f = seek(s, at);
-    match f {
-        Sought::Message(v, from, to) => {
-            let r = report::judge(&s[from..to], v);
-            Walked::Message(from, to, r)
-        }
-        Sought::Nothing => Walked::Nothing,
-        Sought::Refused(e) => Walked::Refused(e),
-    }
+    // As `walk` but for the one call of `report`: an inner function for both needs a clause of its own for the bytes, their characters and their place, and is no plainer.
+    let service = interchange::characters_of(s)?.service;
+    let Some(span) = seek(Text { bytes: s, service }, at)? else {
+        return Ok(None);
+    };
+    let message = Text {
+        bytes: &s[span.start..span.end],
+        service,
+    };
+    let report = report::judge(message);
+    Ok(Some(Walked {
+        start: span.start,
+        end: span.end,
+        report,
+    }))
 }

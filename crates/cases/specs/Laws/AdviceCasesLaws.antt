@@ -1,5 +1,5 @@
 -- The cases of a debit advice. Assumes nothing.
-use Rattle.std.specs.Prelude.{ℕ, ◌≡◌, refl, List, [], ◌∷◌}
+use Rattle.std.specs.Prelude.{ℕ, ◌≡◌, refl, List, [], ◌∷◌, None}
 use Rattle.service.specs.Service.{plain_service, is_alphanumeric, serves, among, distinct, fitting}
 use Rattle.segments.specs.Classes.{class_of}
 use Rattle.segments.specs.SegmentList.{pieces, starts_from}
@@ -9,7 +9,7 @@ use Rattle.values.specs.Forms.Values.{digits, number_of, code_from}
 use Rattle.values.specs.Forms.Codes.{UNH, BGM, DTM, LIN, RFF, MOA, FII, SEQ, CNT, UNT}
 use Rattle.interchange.specs.Messages.{tag_at, closed_at}
 use Rattle.interchange.specs.Envelope.{is_reference}
-use Rattle.faults.specs.declared.Fault.TheVariants as fault
+use Rattle.faults.specs.Firsts.{fault_at}
 use Rattle.chart.specs.Forms.Machine.{only, run, step, step_rows, free, free_rows, placed, choose, takes, owed, rows_by}
 use Rattle.table.specs.Entries.{lines_from, within}
 use Rattle.chart.specs.Table.{chart_of, row_over, inside}
@@ -86,7 +86,7 @@ expected_early : tell_all (early (bare_of plain_service (coming "BGM+342+1+9'"))
 unfolding joined text serves is_alphanumeric among distinct fitting pieces class_of lex value_of elements value_at same_list is_strange strange_from tag_at closed_at is_reference rule10 is_kind headed lines asked fits early tell tell_all
 expected_early = refl
 
-expected_late : least_of (tell_all (rules_for Debmul (segs_of plain_service (coming "BGM+342+1+9'") referenced_rows))) ≡ fault.None
+expected_late : least_of (tell_all (rules_for Debmul (segs_of plain_service (coming "BGM+342+1+9'") referenced_rows))) ≡ None
 unfolding joined text starts_from pieces class_of lex elements value_at segs_from code_from same_list digits number_of those until stretches each some failing misnumbered rule17 rule18 rule20 pre_advice date_holds rule30 rule31 rank tell tell_all least least_of
 expected_late = refl
 
@@ -103,7 +103,7 @@ unexpected_early : tell_all (early (bare_of plain_service (coming "BGM+456+1+9'"
 unfolding joined text serves is_alphanumeric among distinct fitting pieces class_of lex value_of elements value_at same_list is_strange strange_from tag_at closed_at is_reference rule10 is_kind headed lines asked fits early tell tell_all
 unexpected_early = refl
 
-unexpected_late : least_of (tell_all (rules_for Debmul (segs_of plain_service (coming "BGM+456+1+9'") referenced_rows))) ≡ fault.At 30 5
+unexpected_late : least_of (tell_all (rules_for Debmul (segs_of plain_service (coming "BGM+456+1+9'") referenced_rows))) ≡ fault_at 30 5
 unfolding joined text starts_from pieces class_of lex elements value_at segs_from code_from same_list digits number_of those until stretches each some failing misnumbered rule17 rule18 rule20 pre_advice date_holds rule30 rule31 rank tell tell_all least least_of
 unexpected_late = refl
 
@@ -120,7 +120,7 @@ bare_early : tell_all (early (bare_of plain_service (plain "LIN+1+106'")) narrow
 unfolding joined text serves is_alphanumeric among distinct fitting pieces class_of lex value_of elements value_at same_list is_strange strange_from tag_at closed_at is_reference rule10 is_kind headed lines asked fits early tell tell_all
 bare_early = refl
 
-bare_late : least_of (tell_all (rules_for Debmul (segs_of plain_service (plain "LIN+1+106'") plain_rows))) ≡ fault.None
+bare_late : least_of (tell_all (rules_for Debmul (segs_of plain_service (plain "LIN+1+106'") plain_rows))) ≡ None
 unfolding joined text starts_from pieces class_of lex elements value_at segs_from code_from same_list digits number_of those until stretches each some failing misnumbered rule17 rule18 rule20 pre_advice date_holds rule30 rule31 rank tell tell_all least least_of
 bare_late = refl
 
@@ -137,7 +137,7 @@ too_much_early : tell_all (early (bare_of plain_service (referenced "LIN+1+106'"
 unfolding joined text serves is_alphanumeric among distinct fitting pieces class_of lex value_of elements value_at same_list is_strange strange_from tag_at closed_at is_reference rule10 is_kind headed lines asked fits early tell tell_all
 too_much_early = refl
 
-too_much_late : least_of (tell_all (rules_for Debmul (segs_of plain_service (referenced "LIN+1+106'") referenced_rows))) ≡ fault.At 31 9
+too_much_late : least_of (tell_all (rules_for Debmul (segs_of plain_service (referenced "LIN+1+106'") referenced_rows))) ≡ fault_at 31 9
 unfolding joined text starts_from pieces class_of lex elements value_at segs_from code_from same_list digits number_of those until stretches each some failing misnumbered rule17 rule18 rule20 pre_advice date_holds rule30 rule31 rank tell tell_all least least_of
 too_much_late = refl
 
@@ -154,7 +154,7 @@ detailed_early : tell_all (early (bare_of plain_service (referenced "LIN+1+107'"
 unfolding joined text serves is_alphanumeric among distinct fitting pieces class_of lex value_of elements value_at same_list is_strange strange_from tag_at closed_at is_reference rule10 is_kind headed lines asked fits early tell tell_all
 detailed_early = refl
 
-detailed_late : least_of (tell_all (rules_for Debmul (segs_of plain_service (referenced "LIN+1+107'") referenced_rows))) ≡ fault.None
+detailed_late : least_of (tell_all (rules_for Debmul (segs_of plain_service (referenced "LIN+1+107'") referenced_rows))) ≡ None
 unfolding joined text starts_from pieces class_of lex elements value_at segs_from code_from same_list digits number_of those until stretches each some failing misnumbered rule17 rule18 rule20 pre_advice date_holds rule30 rule31 rank tell tell_all least least_of
 detailed_late = refl
 
@@ -171,7 +171,7 @@ too_little_early : tell_all (early (bare_of plain_service (elsewhere "LIN+1+107'
 unfolding joined text serves is_alphanumeric among distinct fitting pieces class_of lex value_of elements value_at same_list is_strange strange_from tag_at closed_at is_reference rule10 is_kind headed lines asked fits early tell tell_all
 too_little_early = refl
 
-too_little_late : least_of (tell_all (rules_for Debmul (segs_of plain_service (elsewhere "LIN+1+107'") elsewhere_rows))) ≡ fault.At 31 9
+too_little_late : least_of (tell_all (rules_for Debmul (segs_of plain_service (elsewhere "LIN+1+107'") elsewhere_rows))) ≡ fault_at 31 9
 unfolding joined text starts_from pieces class_of lex elements value_at segs_from code_from same_list digits number_of those until stretches each some failing misnumbered rule17 rule18 rule20 pre_advice date_holds rule30 rule31 rank tell tell_all least least_of
 too_little_late = refl
 

@@ -1,5 +1,5 @@
 -- Rows 9 to 11 and 13 hold. Assumes nothing.
-use Rattle.std.specs.Prelude.{ℕ, ◌≡◌, refl, List, [], ◌∷◌}
+use Rattle.std.specs.Prelude.{ℕ, ◌≡◌, refl, List, [], ◌∷◌, None}
 use Rattle.std.proofs.Common.{sym, ◌∙◌, ap, subst}
 use Rattle.service.specs.Service.{plain_service, is_mark, is_alphanumeric, serves, among, distinct, fitting}
 use Rattle.segments.specs.Classes.{class_of}
@@ -9,7 +9,7 @@ use Rattle.values.specs.Text.{same_list, text}
 use Rattle.values.specs.Forms.Values.{digits, number_of, one_more, units, fraction, code_from, is_capital, is_capitals}
 use Rattle.interchange.specs.Messages.{tag_at, closed_at}
 use Rattle.interchange.specs.Envelope.{is_reference}
-use Rattle.faults.specs.declared.Fault.TheVariants as fault
+use Rattle.faults.specs.Firsts.{fault_at}
 use Rattle.lent.specs.Lists.{Lists, Left, left}
 use Rattle.lent.specs.Over.{over}
 use Rattle.chart.specs.Chart.{Reading}
@@ -31,8 +31,8 @@ use Rattle.message.specs.Segs.{segs_from, segs_of, those, until, stretches, each
 use Rattle.message.specs.Rules.{some, failing, misnumbered, rule17, rule18, rule20, rule21, rule22, rule23, rule24, rule25, rule26, rule27, rule28, rule29, first_holds, second_holds, is_base, bases_hold, sum, order_holds, payment_holds, details_hold, totals_of}
 use Rattle.message.specs.Kinds.{chart_for, rules_for}
 use Rattle.message.specs.Faults.{rank, tell, tell_all, least, least_of}
-use Rattle.report.specs.declared.Report.{Report}
-use Rattle.report.specs.declared.Report.TheVariants.{Accepted}
+use Rattle.report.specs.Answers.{Report}
+use Rattle.report.specs.Answers.{Accepted}
 use Rattle.report.specs.Reported.{bare_of, Room, room_of, rule10, is_kind, headed, lines, asked, fits, early, Of, Applies, counts_of, filled, Reported, accepted}
 use Rattle.report.specs.Laws.ReportedLaws.{one_report}
 use Rattle.report.specs.Laws.LateLaws.{late_none, late_lowest}
@@ -46,10 +46,10 @@ module _ (k : Kind) (x : Room) (m ts ns : List ℕ) (o : Of k plain_service m) (
       let w = placed_one (chart_for k) ts (fine (table_of k) (sound k)) p in
       subst (λ (l : List ℕ). Reading (chart_for k) l ns) (sym t) (subst (λ (l : List ℕ). Reading (chart_for k) ts l) r (reading_of (table_of k) (sound k) ts w.0 w.1))
 
-  pub holds : least_of (tell_all (rules_for k (segs_of plain_service m ns))) ≡ fault.None → Holds k x m
+  pub holds : least_of (tell_all (rules_for k (segs_of plain_service m ns))) ≡ None → Holds k x m
   holds h = record { of = o; rows = ns; reading = reads; free = late_none k plain_service m o x ns reads e h }
 
-  pub gives : (n s : ℕ) → least_of (tell_all (rules_for k (segs_of plain_service m ns))) ≡ fault.At n s → Gives x m n s
+  pub gives : (n s : ℕ) → least_of (tell_all (rules_for k (segs_of plain_service m ns))) ≡ fault_at n s → Gives x m n s
   gives n s h = late_lowest k plain_service m o x ns reads e n s h
 
 -- ---- whatever meets the contract of a message with this reading to which nothing applies
@@ -89,7 +89,7 @@ early_eur : tell_all (early (bare_of plain_service (exchange "MOA+57:100:EUR'"))
 unfolding joined text serves is_alphanumeric among distinct fitting pieces class_of lex value_of elements value_at same_list is_strange strange_from tag_at closed_at is_reference rule10 is_kind headed lines asked fits early tell tell_all
 early_eur = refl
 
-late_eur : least_of (tell_all (rules_for Paymul (segs_of plain_service (exchange "MOA+57:100:EUR'") rows9))) ≡ fault.None
+late_eur : least_of (tell_all (rules_for Paymul (segs_of plain_service (exchange "MOA+57:100:EUR'") rows9))) ≡ None
 unfolding joined text starts_from pieces class_of lex elements value_at segs_from code_from same_list digits number_of one_more is_mark units fraction is_capital is_capitals those until stretches each some failing misnumbered rule17 rule18 rule20 rule21 rule22 rule23 rule24 rule25 rule26 rule27 rule28 rule29 first_holds second_holds is_base bases_hold sum order_holds payment_holds details_hold rank tell tell_all least least_of
 late_eur = refl
 
@@ -105,7 +105,7 @@ early_usd : tell_all (early (bare_of plain_service (exchange "MOA+57:100:USD'"))
 unfolding joined text serves is_alphanumeric among distinct fitting pieces class_of lex value_of elements value_at same_list is_strange strange_from tag_at closed_at is_reference rule10 is_kind headed lines asked fits early tell tell_all
 early_usd = refl
 
-late_usd : least_of (tell_all (rules_for Paymul (segs_of plain_service (exchange "MOA+57:100:USD'") rows9))) ≡ fault.At 25 8
+late_usd : least_of (tell_all (rules_for Paymul (segs_of plain_service (exchange "MOA+57:100:USD'") rows9))) ≡ fault_at 25 8
 unfolding joined text starts_from pieces class_of lex elements value_at segs_from code_from same_list digits number_of one_more is_mark units fraction is_capital is_capitals those until stretches each some failing misnumbered rule17 rule18 rule20 rule21 rule22 rule23 rule24 rule25 rule26 rule27 rule28 rule29 first_holds second_holds is_base bases_hold sum order_holds payment_holds details_hold rank tell tell_all least least_of
 late_usd = refl
 
@@ -144,7 +144,7 @@ early_pl : tell_all (early (bare_of plain_service (unnamed "NAD+PL+++A'")) room)
 unfolding joined text serves is_alphanumeric among distinct fitting pieces class_of lex value_of elements value_at same_list is_strange strange_from tag_at closed_at is_reference rule10 is_kind headed lines asked fits early tell tell_all
 early_pl = refl
 
-late_pl : least_of (tell_all (rules_for Paymul (segs_of plain_service (unnamed "NAD+PL+++A'") rows10))) ≡ fault.None
+late_pl : least_of (tell_all (rules_for Paymul (segs_of plain_service (unnamed "NAD+PL+++A'") rows10))) ≡ None
 unfolding joined text starts_from pieces class_of lex elements value_at segs_from code_from same_list digits number_of one_more is_mark units fraction is_capital is_capitals those until stretches each some failing misnumbered rule17 rule18 rule20 rule21 rule22 rule23 rule24 rule25 rule26 rule27 rule28 rule29 first_holds second_holds is_base bases_hold sum order_holds payment_holds details_hold rank tell tell_all least least_of
 late_pl = refl
 
@@ -160,7 +160,7 @@ early_oy : tell_all (early (bare_of plain_service (unnamed "NAD+OY+++A'")) room)
 unfolding joined text serves is_alphanumeric among distinct fitting pieces class_of lex value_of elements value_at same_list is_strange strange_from tag_at closed_at is_reference rule10 is_kind headed lines asked fits early tell tell_all
 early_oy = refl
 
-late_oy : least_of (tell_all (rules_for Paymul (segs_of plain_service (unnamed "NAD+OY+++A'") rows10))) ≡ fault.At 27 4
+late_oy : least_of (tell_all (rules_for Paymul (segs_of plain_service (unnamed "NAD+OY+++A'") rows10))) ≡ fault_at 27 4
 unfolding joined text starts_from pieces class_of lex elements value_at segs_from code_from same_list digits number_of one_more is_mark units fraction is_capital is_capitals those until stretches each some failing misnumbered rule17 rule18 rule20 rule21 rule22 rule23 rule24 rule25 rule26 rule27 rule28 rule29 first_holds second_holds is_base bases_hold sum order_holds payment_holds details_hold rank tell tell_all least least_of
 late_oy = refl
 
@@ -195,7 +195,7 @@ early_again : tell_all (early (bare_of plain_service (counted "SEQ++1'")) room) 
 unfolding joined text serves is_alphanumeric among distinct fitting pieces class_of lex value_of elements value_at same_list is_strange strange_from tag_at closed_at is_reference rule10 is_kind headed lines asked fits early tell tell_all
 early_again = refl
 
-late_again : least_of (tell_all (rules_for Paymul (segs_of plain_service (counted "SEQ++1'") rows11))) ≡ fault.None
+late_again : least_of (tell_all (rules_for Paymul (segs_of plain_service (counted "SEQ++1'") rows11))) ≡ None
 unfolding joined text starts_from pieces class_of lex elements value_at segs_from code_from same_list digits number_of one_more is_mark units fraction is_capital is_capitals those until stretches each some failing misnumbered rule17 rule18 rule20 rule21 rule22 rule23 rule24 rule25 rule26 rule27 rule28 rule29 first_holds second_holds is_base bases_hold sum order_holds payment_holds details_hold rank tell tell_all least least_of
 late_again = refl
 
@@ -211,7 +211,7 @@ early_on : tell_all (early (bare_of plain_service (counted "SEQ++3'")) room) ≡
 unfolding joined text serves is_alphanumeric among distinct fitting pieces class_of lex value_of elements value_at same_list is_strange strange_from tag_at closed_at is_reference rule10 is_kind headed lines asked fits early tell tell_all
 early_on = refl
 
-late_on : least_of (tell_all (rules_for Paymul (segs_of plain_service (counted "SEQ++3'") rows11))) ≡ fault.At 21 22
+late_on : least_of (tell_all (rules_for Paymul (segs_of plain_service (counted "SEQ++3'") rows11))) ≡ fault_at 21 22
 unfolding joined text starts_from pieces class_of lex elements value_at segs_from code_from same_list digits number_of one_more is_mark units fraction is_capital is_capitals those until stretches each some failing misnumbered rule17 rule18 rule20 rule21 rule22 rule23 rule24 rule25 rule26 rule27 rule28 rule29 first_holds second_holds is_base bases_hold sum order_holds payment_holds details_hold rank tell tell_all least least_of
 late_on = refl
 
@@ -235,7 +235,7 @@ early_half : tell_all (early (bare_of plain_service (exchange "MOA+57:,5:EUR'"))
 unfolding joined text serves is_alphanumeric among distinct fitting pieces class_of lex value_of elements value_at same_list is_strange strange_from tag_at closed_at is_reference rule10 is_kind headed lines asked fits early tell tell_all
 early_half = refl
 
-late_half : least_of (tell_all (rules_for Paymul (segs_of plain_service (exchange "MOA+57:,5:EUR'") rows9))) ≡ fault.None
+late_half : least_of (tell_all (rules_for Paymul (segs_of plain_service (exchange "MOA+57:,5:EUR'") rows9))) ≡ None
 unfolding joined text starts_from pieces class_of lex elements value_at segs_from code_from same_list digits number_of one_more is_mark units fraction is_capital is_capitals those until stretches each some failing misnumbered rule17 rule18 rule20 rule21 rule22 rule23 rule24 rule25 rule26 rule27 rule28 rule29 first_holds second_holds is_base bases_hold sum order_holds payment_holds details_hold rank tell tell_all least least_of
 late_half = refl
 
@@ -255,7 +255,7 @@ early_bare : tell_all (early (bare_of plain_service (exchange "MOA+57:5,:EUR'"))
 unfolding joined text serves is_alphanumeric among distinct fitting pieces class_of lex value_of elements value_at same_list is_strange strange_from tag_at closed_at is_reference rule10 is_kind headed lines asked fits early tell tell_all
 early_bare = refl
 
-late_bare : least_of (tell_all (rules_for Paymul (segs_of plain_service (exchange "MOA+57:5,:EUR'") rows9))) ≡ fault.At 22 7
+late_bare : least_of (tell_all (rules_for Paymul (segs_of plain_service (exchange "MOA+57:5,:EUR'") rows9))) ≡ fault_at 22 7
 unfolding joined text starts_from pieces class_of lex elements value_at segs_from code_from same_list digits number_of one_more is_mark units fraction is_capital is_capitals those until stretches each some failing misnumbered rule17 rule18 rule20 rule21 rule22 rule23 rule24 rule25 rule26 rule27 rule28 rule29 first_holds second_holds is_base bases_hold sum order_holds payment_holds details_hold rank tell tell_all least least_of
 late_bare = refl
 

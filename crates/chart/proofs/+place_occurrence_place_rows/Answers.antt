@@ -1,22 +1,21 @@
 -- Placing over the table is the machine's run: every goal is a law of Walk. Assumes nothing.
-use Rattle.std.proofs.Common.{rules}
-use Rattle.chart.proofs.Walk.{rows_done, rows_small, rows_again, rows_leaf, rows_short, rows_next}
+use Rattle.std.specs.Prelude.{ℕ, ◌≡◌, Result, Ok, Err, IsErrAnd}
+use Rattle.std.proofs.Common.{rules, ap}
+use Rattle.chart.specs.declared.Cursor.{Cursor}
+use Rattle.chart.proofs.Walk.{rows_again, rows_next, rows_stop}
 use Rattle.chart.proofs.+place_occurrence_place_rows.Goals as goal
 
+-- what `?` hands on is the place
+handed : (x : Result Cursor ℕ) (p : ℕ) → IsErrAnd x (λ q. q ≡ p) → x ≡ Err p
+handed (Ok d) p h = absurd h
+handed (Err q) p h = ap Err h
+
 pub place_rows-loop-r-preserved-then-is_group : goal.place_rows-loop-r-preserved-then-is_group
-place_rows-loop-r-preserved-then-is_group t c = search (rows_again, rules)
+place_rows-loop-r-preserved-then-is_group t c = search (c.in_ok-c-in-Takes.was, rows_again, rules)
 
-pub place_rows-loop-r-preserved-else-is_group : goal.place_rows-loop-r-preserved-else-is_group
-place_rows-loop-r-preserved-else-is_group t c = search (rows_leaf, rules)
-
-pub place_rows-returns-in-Owes : goal.place_rows-returns-in-Owes
-place_rows-returns-in-Owes t c = search (rows_short, rules)
-
-pub place_rows-end_of-r-requires : goal.place_rows-end_of-r-requires
-place_rows-end_of-r-requires t c = search (rows_small, rules)
+pub place_rows-returns-in_err-c-in-Takes : goal.place_rows-returns-in_err-c-in-Takes
+place_rows-returns-in_err-c-in-Takes t c =
+    rw (handed c.from_residual.result c.in_err-c-in-Takes.field-0.0 c.from_residual.ensures.1) (search (c.in_err-c-in-Takes.ensures, rows_stop, rules))
 
 pub place_rows-loop-r-preserved : goal.place_rows-loop-r-preserved
 place_rows-loop-r-preserved t c = search (rows_next, rules)
-
-pub place_rows-returns : goal.place_rows-returns
-place_rows-returns t c = search (rows_done, rules)

@@ -11,7 +11,7 @@ abbrev pub decreases-place_rows : goal.decreases-place_rows
 decreases-place_rows l = (end_of l.t.now.now l.g - l.g) + (end_of l.t.now.now l.g - l.g)
 
 abbrev pub invariant-place_rows-loop-r : goal.invariant-place_rows-loop-r
-invariant-place_rows-loop-r l = RowsInv l.t.now l.v l.m.now l.g l.end l.initial.c l.r l.times l.c
+invariant-place_rows-loop-r l = RowsInv l.t.now l.text.service l.text.bytes.now l.g l.end l.initial.c l.r l.times l.c
 
 abbrev pub decreases-place_rows-loop-r : goal.decreases-place_rows-loop-r
 decreases-place_rows-loop-r l = turns l.end l.r l.times

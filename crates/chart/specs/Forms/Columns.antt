@@ -1,13 +1,15 @@
 -- The table's columns, as the code reads them, and what rows of the table are in the tree.
-use Rattle.std.specs.Prelude.{◌≡◌, Bool, List, [], ℕ, ◌+◌, ◌<◌, ◌≤◌, ltb, get_or, length}
+use Rattle.std.specs.Prelude.{◌≡◌, Bool, ℕ, ◌+◌, ◌<◌, ◌≤◌, ltb, get_or, length}
 use Rattle.service.specs.Tests.{if}
-use Rattle.table.specs.Entries.{tag_in, parent_in, end_in, status_in, repeats_in, required}
+use Rattle.table.specs.declared.Row.{Row}
+use Rattle.table.specs.declared.Status.{Status}
+use Rattle.table.specs.Entries.{tag_in, parent_in, end_in, status_in, repeats_in, most_in, required, blank}
 use Rattle.chart.specs.Chart.{Rows, none, row}
-use Rattle.chart.specs.Table.{Table, most_in}
+use Rattle.chart.specs.Table.{Table}
 
 -- the line of row r
-abbrev pub line_of : Table → ℕ → List ℕ
-line_of t r = get_or t r []
+abbrev pub line_of : Table → ℕ → Row
+line_of t r = get_or t r blank
 
 abbrev pub tag_of : Table → ℕ → ℕ
 tag_of t r = tag_in (line_of t r)
@@ -18,7 +20,7 @@ parent_of t r = parent_in (line_of t r)
 abbrev pub end_of : Table → ℕ → ℕ
 end_of t r = end_in (line_of t r)
 
-abbrev pub status_of : Table → ℕ → ℕ
+abbrev pub status_of : Table → ℕ → Status
 status_of t r = status_in (line_of t r)
 
 abbrev pub repeats_of : Table → ℕ → ℕ

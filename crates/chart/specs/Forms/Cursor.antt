@@ -27,10 +27,6 @@ step_by Nothing v m c = c
 unfoldable pub step_from : Service → List ℕ → Cursor → Cursor
 step_from v m c = step_by (segment_at v c.at m) v m c
 
--- c, with a tag that no row has: no message goes on there
-abbrev pub halted : Cursor → Cursor
-halted c = record { at = c.at; tag = 2 }
-
 -- from a place i of n bytes the next place, j, lies further on
 pub record Onward (n i j : ℕ) : Type 0 where
   pub further : i < n → i < j

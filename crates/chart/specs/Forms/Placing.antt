@@ -1,5 +1,5 @@
 -- What placing rows, and one occurrence of a row, comes to: the machine's run, whatever is to be placed after them.
-use Rattle.std.specs.Prelude.{◌≡◌, List, Bool, true, false, ◌&&◌ as and, ℕ, zero, ◌+◌, ◌^◌, ◌<◌, ltb, length, get_or, drop}
+use Rattle.std.specs.Prelude.{◌≡◌, List, Bool, true, false, ◌&&◌ as and, ℕ, zero, ◌+◌, ◌^◌, ◌<◌, ltb, length, get_or, drop, Result, Ok, Err}
 use Rattle.service.specs.declared.Service.{Service}
 use Rattle.chart.specs.declared.Cursor.{Cursor}
 use Rattle.chart.specs.declared.Turn.{Turn}
@@ -41,9 +41,9 @@ pub record RowsPass (t : Table) (v : Service) (m : List ℕ) (lo hi : ℕ) (from
 pub record RowsStop (t : Table) (v : Service) (m : List ℕ) (lo hi : ℕ) (from : Cursor) (p : ℕ) : Type 0 where
   pub stop : (i : ℕ) → Stands v m i from → (j : ℕ) × (p ≡ start_at v m j) × RowsNo t lo hi (tags_of v m) i j
 
-pub data RowsDone (t : Table) (v : Service) (m : List ℕ) (lo hi : ℕ) (from d : Cursor) : Type 0 where
-  rows_passed : RowsPass t v m lo hi from d → RowsDone t v m lo hi from d
-  rows_stopped : d.tag ≡ 2 → RowsStop t v m lo hi from d.at → RowsDone t v m lo hi from d
+abbrev pub RowsDone : Table → Service → List ℕ → ℕ → ℕ → Cursor → Result Cursor ℕ → Type 0
+RowsDone t v m lo hi from (Ok d) = RowsPass t v m lo hi from d
+RowsDone t v m lo hi from (Err p) = RowsStop t v m lo hi from p
 
 pub record OncePass (t : Table) (v : Service) (m : List ℕ) (r : ℕ) (from d : Cursor) : Type 0 where
   pub pass : (i : ℕ) → Stands v m i from → (j : ℕ) × Stands v m j d × OnceTo t r (tags_of v m) i j
@@ -51,9 +51,9 @@ pub record OncePass (t : Table) (v : Service) (m : List ℕ) (r : ℕ) (from d :
 pub record OnceStop (t : Table) (v : Service) (m : List ℕ) (r : ℕ) (from : Cursor) (p : ℕ) : Type 0 where
   pub stop : (i : ℕ) → Stands v m i from → (j : ℕ) × (p ≡ start_at v m j) × OnceNo t r (tags_of v m) i j
 
-pub data OnceDone (t : Table) (v : Service) (m : List ℕ) (r : ℕ) (from d : Cursor) : Type 0 where
-  once_passed : OncePass t v m r from d → OnceDone t v m r from d
-  once_stopped : d.tag ≡ 2 → OnceStop t v m r from d.at → OnceDone t v m r from d
+abbrev pub OnceDone : Table → Service → List ℕ → ℕ → Cursor → Result Cursor ℕ → Type 0
+OnceDone t v m r from (Ok d) = OncePass t v m r from d
+OnceDone t v m r from (Err p) = OnceStop t v m r from p
 
 -- what a row that has been had n times makes of the segment at c: it is had once more, it is owed, or it is passed
 pub record Taken (t : Table) (r n : ℕ) (c : Cursor) : Type 0 where

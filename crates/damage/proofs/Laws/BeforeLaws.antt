@@ -11,19 +11,22 @@ use Rattle.std.proofs.lemmas.List.{drop-append-le}
 use Rattle.std.proofs.Math.Dec.{T}
 use Rattle.service.specs.declared.Service.{Service}
 use Rattle.service.specs.Tests.{if, is_empty}
-use Rattle.segments.specs.declared.End.{End}
-use Rattle.segments.specs.declared.End.TheVariants.{At, None}
+use Rattle.std.specs.Prelude.{Option}
+use Rattle.std.specs.Prelude.{Some, None}
 use Rattle.segments.specs.declared.Segment.{Segment}
 use Rattle.segments.specs.declared.Segment.TheVariants as segment
 use Rattle.segments.specs.Forms.Bytes.{end_from, past_breaks}
 use Rattle.segments.specs.Forms.Segments.{segment_by, segment_at}
 use Rattle.segments.specs.Laws.SegmentsLaws.{segment_nothing, segment_by_lem, lies}
-use Rattle.segments.specs.SegmentList.{Piece, finished, unfinished, segments_from, segments_after}
+use Rattle.segments.specs.declared.Piece.{Piece}
+use Rattle.segments.specs.declared.Piece.TheVariants.{Finished as finished, Unfinished as unfinished}
+use Rattle.segments.specs.SegmentList.{segments_from, segments_after}
 use Rattle.segments.specs.Laws.ListLaws.{list_nothing, list_finished, list_unfinished, segments_after_lem}
 use Rattle.parts.specs.Parts.{lex, value_of}
 use Rattle.parts.proofs.Laws.PartLaws.{lex_part}
 use Rattle.values.specs.Text.{says}
-use Rattle.interchange.specs.Messages.{tag_at, head, trailer, last, other, Extent, extent_by, extent_of, messages_by}
+use Rattle.interchange.specs.Messages.{tag_at, Extent, extent_by, extent_of, messages_by}
+use Rattle.interchange.specs.declared.Kind.TheVariants.{Head as head, Trailer as trailer, Last as last, Other as other}
 use Rattle.damage.proofs.Laws.DamageLaws.{beginning}
 
 -- whether a message stands open after the segments l, where one stood open before them or not
@@ -87,15 +90,15 @@ module _ (v : Service) (s s' : List ℕ) (r r' : List Piece) where
   begins_same b (unf a e l w) h = begins_same b w h
 
 -- ---- the tags in a text are those of any longer one
-end_by_lem : (s : List ℕ) (k : End) (t n : ℕ) → segment_by s k ≡ segment.Finished t n → k ≡ At t
-end_by_lem s (At u) t n e = let a : u ≡ t = cc in ap At a
+end_by_lem : (s : List ℕ) (k : Option ℕ) (t n : ℕ) → segment_by s k ≡ segment.Finished t n → k ≡ Some t
+end_by_lem s (Some u) t n e = let a : u ≡ t = cc in ap Some a
 end_by_lem s None t n e = absurd (let z : ◌≡◌ {A = ℕ} 0 1 = cc in omega arith)
 
 module _ (v : Service) (s b : List ℕ) where
-  pub end_is : (i : ℕ) (k : Segment) → k ≡ segment_at v i s → (t n : ℕ) → k ≡ segment.Finished t n → end_from v false i (drop i s) ≡ At t
+  pub end_is : (i : ℕ) (k : Segment) → k ≡ segment_at v i s → (t n : ℕ) → k ≡ segment.Finished t n → end_from v false i (drop i s) ≡ Some t
   end_is i k c t n e = go (dec_lt i (length s))
     where
-      go : Dec (i < length s) → end_from v false i (drop i s) ≡ At t
+      go : Dec (i < length s) → end_from v false i (drop i s) ≡ Some t
       go (yes h) = end_by_lem s (end_from v false i (drop i s)) t n (segment_by_lem v s i h (end_from v false i (drop i s)) refl ∙ sym c ∙ e)
       go (no g) =
           let h : length s ≤ i = omega arith in

@@ -7,10 +7,13 @@ use Rattle.std.proofs.Math.Bool.{false}
 use Rattle.std.proofs.Math.Seq.{drop-append-add}
 use Rattle.service.specs.declared.Service.{Service}
 use Rattle.service.specs.Tests.{is_empty}
-use Rattle.segments.specs.SegmentList.{Piece, finished, unfinished}
+use Rattle.segments.specs.declared.Piece.{Piece}
+use Rattle.segments.specs.declared.Piece.TheVariants.{Finished as finished, Unfinished as unfinished}
 use Rattle.segments.specs.Sync.{shift}
 use Rattle.parts.specs.Parts.{lex, value_of}
-use Rattle.interchange.specs.Messages.{tag_at, start_of, Kind, head, trailer, last, other, cut, kind_by, kind_of, Extent, closed, unclosed, past_of, extent_by, extent_of, messages_by, messages_of}
+use Rattle.interchange.specs.Messages.{tag_at, start_of, kind_by, kind_of, Extent, closed, unclosed, past_of, extent_by, extent_of, messages_by, messages_of}
+use Rattle.interchange.specs.declared.Kind.{Kind}
+use Rattle.interchange.specs.declared.Kind.TheVariants.{Head as head, Trailer as trailer, Last as last, Other as other, Cut as cut}
 
 -- the same message, k bytes further on
 abbrev pub moved : ℕ → Extent → Extent

@@ -2,11 +2,13 @@
 use Rattle.std.specs.Prelude.{ℕ, ◌+◌, ◌≤◌, ◌≡◌, refl, ◌⊎◌, List, ◌∷◌, ◌++◌, true, false, length, take, drop}
 use Rattle.std.proofs.Common.{arith, sym, ◌∙◌, ap, subst, length-take-le, take-take}
 use Rattle.std.proofs.lemmas.List.{take-append-le}
+use Rattle.numbers.specs.declared.Number.TheVariants as numbers
 use Rattle.service.specs.declared.Service.{Service}
 use Rattle.service.specs.Service.{Fits}
 use Rattle.service.specs.Laws.FitLaws.{characters_fit}
-use Rattle.segments.specs.SegmentList.{Piece, segments_after}
-use Rattle.interchange.specs.declared.Opening.TheVariants.{Opens, Refused}
+use Rattle.segments.specs.declared.Piece.{Piece}
+use Rattle.segments.specs.SegmentList.{segments_after}
+use Rattle.interchange.specs.Answers.{Opens, Refused}
 use Rattle.interchange.specs.Messages.{Extent, closed, messages_of}
 use Rattle.interchange.specs.Envelope.{refusal, body_of}
 use Rattle.interchange.specs.Forms.Answers.{opening_of}
@@ -44,7 +46,7 @@ before_unt s v first o before a e after m =
 -- whatever stretch behind the UNB is replaced: the result opens, or it is refused by 4
 pub opens_or_refused : (s : List ℕ) (v : Service) (first : ℕ) → opening_of s ≡ Opens v first → (before : List Extent) (a e : ℕ) (after : List Extent)
     → messages_of v s (body_of v s first) ≡ before ++ (closed a e ∷ after) → (z : ℕ) → z + 1 ≡ e → (c : Stretch) → Within a z c → length (replaced s c) ≤ 1048576
-    → (opening_of (replaced s c) ≡ Opens v first) ⊎ (opening_of (replaced s c) ≡ Refused (refusal 4))
+    → (opening_of (replaced s c) ≡ Opens v first) ⊎ (opening_of (replaced s c) ≡ Refused (refusal numbers.End))
 opens_or_refused s v first o before a e after m z n c w h =
     let q : ℕ = (header s v first o).term + 1 in
     let y = lies v s q (unb_within s v first o) before a e after (ap (messages_of v s) (sym (body_after s v first o)) ∙ m) in

@@ -4,7 +4,9 @@ use Rattle.std.proofs.Common.{add-one, arith, sym, ◌∙◌, ap, ap₂, subst, 
 use Rattle.std.proofs.lemmas.List.{append_cancel_right, take-append-le, drop-append-le}
 use Rattle.service.specs.declared.Service.{Service}
 use Rattle.service.specs.Service.{Fits}
-use Rattle.segments.specs.SegmentList.{Piece, finished, gap, pieces, segments_after}
+use Rattle.segments.specs.declared.Piece.{Piece}
+use Rattle.segments.specs.declared.Piece.TheVariants.{Finished as finished}
+use Rattle.segments.specs.SegmentList.{gap, pieces, segments_after}
 use Rattle.segments.specs.Sync.{run, shift, rel_after}
 use Rattle.segments.specs.Laws.ResyncLaws.{gap_start, pieces_append, loose_before}
 use Rattle.segments.specs.Laws.FitLaws.{fits_sound, fit_settles}

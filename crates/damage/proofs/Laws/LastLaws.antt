@@ -3,7 +3,8 @@ use Rattle.std.specs.Prelude.{ℕ, ◌≡◌, refl, List, [], ◌∷◌, ◌++�
 use Rattle.std.proofs.Common.{sym, ◌∙◌, ap, subst}
 use Rattle.service.specs.declared.Service.{Service}
 use Rattle.service.specs.Tests.{last_of}
-use Rattle.segments.specs.SegmentList.{Piece, finished, unfinished}
+use Rattle.segments.specs.declared.Piece.{Piece}
+use Rattle.segments.specs.declared.Piece.TheVariants.{Finished as finished, Unfinished as unfinished}
 use Rattle.segments.specs.Sync.{shift}
 use Rattle.values.specs.Text.{says}
 use Rattle.interchange.specs.Envelope.{is_unz, last_unz}

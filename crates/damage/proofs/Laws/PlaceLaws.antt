@@ -4,12 +4,16 @@ use Rattle.std.proofs.Common.{arith, sym, ◌∙◌, ap, subst, inl, inr, append
 use Rattle.std.proofs.Math.Path.{◌≡◌}
 use Rattle.service.specs.declared.Service.{Service}
 use Rattle.service.specs.Tests.{last_of}
-use Rattle.segments.specs.SegmentList.{Piece, finished, gap, segments_after}
+use Rattle.segments.specs.declared.Piece.{Piece}
+use Rattle.segments.specs.declared.Piece.TheVariants.{Finished as finished}
+use Rattle.segments.specs.SegmentList.{gap, segments_after}
 use Rattle.segments.specs.Laws.ClearLaws.{Clear, clear_on, passed, upto_start, from_start, past_all, PassedAll, passed_all}
 use Rattle.values.specs.Text.{text, same_list, says}
-use Rattle.interchange.specs.Messages.{tag_at, Kind, head, trailer, last, other, cut, kind_by, kind_of, Extent, closed, extent_of, messages_by, messages_of}
+use Rattle.interchange.specs.Messages.{tag_at, kind_by, kind_of, Extent, closed, extent_of, messages_by, messages_of}
+use Rattle.interchange.specs.declared.Kind.{Kind}
+use Rattle.interchange.specs.declared.Kind.TheVariants.{Head as head, Trailer as trailer, Last as last, Other as other, Cut as cut}
 use Rattle.interchange.specs.Envelope.{last_unz}
-use Rattle.interchange.specs.Laws.CloseLaws.{Tidy, nil, one, more, tidy_pieces}
+use Rattle.interchange.specs.Laws.EndedLaws.{Tidy, nil, one, more, tidy_pieces}
 use Rattle.interchange.specs.Laws.KindLaws.{head_tag}
 use Rattle.interchange.specs.Laws.NearLaws.{last_append}
 use Rattle.damage.specs.Damage.{Before}

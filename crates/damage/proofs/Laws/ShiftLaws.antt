@@ -5,10 +5,13 @@ use Rattle.std.proofs.Common.{◌∙◌, ap, ap₂, length-drop}
 use Rattle.std.proofs.Math.Seq.{drop-append-add}
 use Rattle.std.proofs.lemmas.List.{drop-append-le, take-append-le}
 use Rattle.service.specs.declared.Service.{Service}
-use Rattle.segments.specs.SegmentList.{Piece, finished}
+use Rattle.segments.specs.declared.Piece.{Piece}
+use Rattle.segments.specs.declared.Piece.TheVariants.{Finished as finished}
 use Rattle.segments.specs.Laws.ClearLaws.{Below, nil, fin, unf}
 use Rattle.values.specs.Text.{text, same_list}
-use Rattle.interchange.specs.Messages.{tag_at, start_of, past_of, Kind, head, trailer, last, other, cut, kind_of, Extent, closed, unclosed, starts_at, ends_at, bytes_of, extent_by, extent_of, messages_by}
+use Rattle.interchange.specs.Messages.{tag_at, start_of, past_of, kind_of, Extent, closed, unclosed, starts_at, ends_at, bytes_of, extent_by, extent_of, messages_by}
+use Rattle.interchange.specs.declared.Kind.{Kind}
+use Rattle.interchange.specs.declared.Kind.TheVariants.{Head as head, Trailer as trailer, Last as last, Other as other, Cut as cut}
 use Rattle.interchange.specs.Laws.FindLaws.{extent_starts}
 use Rattle.damage.proofs.Laws.DamageLaws.{moved, beginning}
 

@@ -7,13 +7,17 @@ use Rattle.std.proofs.Math.Bool.{true, false}
 use Rattle.std.proofs.Math.Dec.{T}
 use Rattle.service.specs.declared.Service.{Service}
 use Rattle.service.specs.Tests.{if, is_empty, last_of}
-use Rattle.segments.specs.SegmentList.{Piece, finished, unfinished, all_finished}
+use Rattle.segments.specs.declared.Piece.{Piece}
+use Rattle.segments.specs.declared.Piece.TheVariants.{Finished as finished, Unfinished as unfinished}
+use Rattle.segments.specs.SegmentList.{all_finished}
 use Rattle.values.specs.Text.{text, same_list, says}
 use Rattle.values.specs.Laws.TextLaws.{same_eq}
-use Rattle.interchange.specs.Messages.{tag_at, start_of, Kind, head, trailer, last, other, cut, kind_by, kind_of, Extent, closed, starts_at, extent_by, extent_of, messages_by, messages_of}
+use Rattle.interchange.specs.Messages.{tag_at, start_of, kind_by, kind_of, Extent, closed, starts_at, extent_by, extent_of, messages_by, messages_of}
+use Rattle.interchange.specs.declared.Kind.{Kind}
+use Rattle.interchange.specs.declared.Kind.TheVariants.{Head as head, Trailer as trailer, Last as last, Other as other, Cut as cut}
 use Rattle.interchange.specs.Laws.FindLaws.{extent_starts}
 use Rattle.interchange.specs.Laws.KindLaws.{head_tag}
-use Rattle.interchange.specs.Laws.CloseLaws.{Tidy, nil, one, more}
+use Rattle.interchange.specs.Laws.EndedLaws.{Tidy, nil, one, more}
 use Rattle.damage.specs.Damage.{last_closed, Before, here, later}
 use Rattle.damage.proofs.Laws.DamageLaws.{beginning}
 use Rattle.damage.proofs.Laws.BeforeLaws.{stands}

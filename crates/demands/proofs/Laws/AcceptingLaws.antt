@@ -1,5 +1,5 @@
 -- Demand 2 in its own words. Assumes nothing.
-use Rattle.std.specs.Prelude.{ℕ, ◌≡◌, refl, List, [], ◌∷◌, Bool, true, false}
+use Rattle.std.specs.Prelude.{ℕ, ◌≡◌, refl, List, [], ◌∷◌, Bool, true, false, None}
 use Rattle.std.proofs.Common.{arith, sym, ◌∙◌, subst}
 use Rattle.std.proofs.Math.Path.{ap}
 use Rattle.service.specs.declared.Service.{Service}
@@ -12,14 +12,12 @@ use Rattle.kinds.specs.declared.Kind.{Kind}
 use Rattle.kinds.specs.Kinds.{table_of}
 use Rattle.chart.proofs.Whole.{placed_rows, reading_of}
 use Rattle.chart.proofs.Tables.{sound}
-use Rattle.faults.specs.declared.Fault.TheVariants as fault
 use Rattle.message.specs.Segs.{segs_of}
 use Rattle.message.specs.Rules.{totals_of}
 use Rattle.message.specs.Kinds.{means, chart_for, rules_for}
 use Rattle.message.specs.Faults.{Told, told, tell_all, least_of}
 use Rattle.report.specs.declared.Counts.{Counts}
-use Rattle.report.specs.declared.Report.{Report}
-use Rattle.report.specs.declared.Report.TheVariants.{Accepted}
+use Rattle.report.specs.Answers.{Report, Accepted}
 use Rattle.report.specs.Reported.{bare_of, Room, room_of, early, In, here, Of, Applies, soon, late, counts_of, filled, Reported, accepted, refused}
 use Rattle.report.specs.Laws.ReportedLaws.{one_report}
 use Rattle.report.specs.Laws.FreeLaws.{short_told, free_fits}
@@ -53,7 +51,7 @@ module _ (v : Service) (m : List ℕ) (x : Room) where
       let z : true ≡ false = sym w.long ∙ e in
       let y : ◌≡◌ {A = ℕ} 0 1 = cc in omega arith)
 
-  least_none : (l : List Told) → l ≡ [] → least_of l ≡ fault.None
+  least_none : (l : List Told) → l ≡ [] → least_of l ≡ None
   unfolding least_of
   least_none l e = ap least_of e
 

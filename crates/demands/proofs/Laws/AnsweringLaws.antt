@@ -1,17 +1,17 @@
 -- Every contract can be met. Assumes nothing.
-use Rattle.std.specs.Prelude.{ℕ, ◌+◌, ◌≤◌, ◌<◌, ◌≡◌, refl, ◌⊎◌, Bool, true, false, length, leb, ltb}
+use Rattle.std.specs.Prelude.{ℕ, ◌+◌, ◌≤◌, ◌<◌, ◌≡◌, refl, ◌⊎◌, Bool, true, false, length, leb, ltb, Option, None, Some as Just, Ok, Err}
 use Rattle.std.proofs.Common.{arith, sym, ◌∙◌, inl, inr}
 use Rattle.std.proofs.Math.Decide.{dec_lt}
 use Rattle.std.proofs.Math.Path.{subst}
+use Rattle.numbers.specs.Table.{table_number}
+use Rattle.numbers.specs.declared.Number.TheVariants as numbers
 use mathlib.Core.List.{List, [], ◌∷◌, ◌++◌}
 use Rattle.service.specs.declared.Service.{Service}
 use Rattle.service.specs.declared.Characters.{Characters}
-use Rattle.service.specs.declared.Characters.TheVariants.{Fit, Unfit}
-use Rattle.service.specs.Service.{characters_of}
+use Rattle.service.specs.Service.{Fit, Unfit, characters_of}
 use Rattle.service.specs.Tests.{if}
 use Rattle.interchange.specs.declared.Refusal.{Refusal}
-use Rattle.interchange.specs.declared.Opening.{Opening}
-use Rattle.interchange.specs.declared.Closing.{Closing}
+use Rattle.interchange.specs.Answers.{Opening, Closing}
 use Rattle.interchange.specs.Messages.{ends_closed}
 use Rattle.interchange.specs.Envelope.{refusal, opening_number}
 use Rattle.interchange.specs.Opened.{OpenedAs}
@@ -20,7 +20,6 @@ use Rattle.interchange.specs.Forms.Answers.{opening_of, closing_of}
 use Rattle.interchange.specs.Laws.OpenedLaws.{is_opening}
 use Rattle.interchange.specs.Laws.ClosingLaws.{is_closing}
 use Rattle.faults.specs.declared.Fault.{Fault}
-use Rattle.faults.specs.declared.Fault.TheVariants as fault
 use Rattle.lent.specs.Lists.{Lists, lists, left}
 use Rattle.chart.specs.Chart.{Placement, FailsAt, Reading}
 use Rattle.chart.specs.Tags.{tags_of}
@@ -32,9 +31,9 @@ use Rattle.chart.proofs.Whole.{fine}
 use Rattle.chart.proofs.Tables.{sound}
 use Rattle.message.specs.Segs.{segs_of}
 use Rattle.message.specs.Kinds.{chart_for, rules_for}
-use Rattle.message.specs.Faults.{told, tell_all, least_of}
-use Rattle.report.specs.declared.Report.{Report}
-use Rattle.report.specs.declared.Report.TheVariants as report
+use Rattle.message.specs.Faults.{Told, told, tell_all, least_of}
+use Rattle.report.specs.Answers.{Report}
+use Rattle.report.specs.Answers as report
 use Rattle.report.specs.Reported.{Bare, bare_of, told_unless, rule10, headed, fits, early, In, Of, Lowest, offset_of, counts_of, filled, room_of, Reported, accepted, refused}
 use Rattle.report.specs.Judged.{Judged, judged as judged-so}
 use Rattle.report.specs.Laws.JudgeLaws.{bytes_enough}
@@ -45,8 +44,8 @@ use Rattle.report.specs.Laws.LateLaws.{late_none, late_lowest, misfit_lowest}
 use Rattle.report.specs.Laws.ClosedLaws.{closes}
 use Rattle.report.specs.Laws.KindLaws.{headed_of}
 use Rattle.report.specs.Forms.Checks.{kind_at}
-use Rattle.walk.specs.declared.Walked.{Walked}
-use Rattle.walk.specs.declared.Walked.TheVariants as walked
+use Rattle.walk.specs.Steps.{Walked}
+use Rattle.walk.specs.Steps as walked
 use Rattle.walk.specs.Frame.{Step, message, nothing, step_with, step_from}
 use Rattle.walk.specs.Frame as frame
 use Rattle.walk.specs.Walks.{between, Walks, walks_message, walks_nothing, walks_refused, Judges, judges}
@@ -57,11 +56,15 @@ use Rattle.twineherald.specs.Several.{numbers_of, AnsweredEach, no_more, one_mor
 use Rattle.twineherald.specs.Laws.SeveralLaws.{answer_by}
 use Rattle.demands.proofs.Laws.AcceptingLaws.{read}
 use Rattle.demands.specs.Answering.{Some, Answering}
+use Rattle.demands.proofs.Laws.RefusalsLaws.{applies_case}
 
 -- ---- a message
 module _ (v : Service) (m : List ℕ) (x : Lists) where
   refuses : (n s : ℕ) → Lowest v m (room_of x) n s → Some (Reported v m x)
-  refuses n s l = let f : Refusal = record { number = n; segment = s; offset = offset_of v m n s } in (left (report.Refused f) x, refused f l refl refl)
+  refuses n s l =
+      let c = applies_case v m (room_of x) n s l.applies in
+      let f : Refusal = record { number = c.0; segment = s; offset = offset_of v m (table_number c.0) s } in
+      (left (report.Refused f) x, refused f (subst (λ (k : ℕ). Lowest v m (room_of x) k s) (sym c.1) l) refl refl)
 
   -- where 11 is not told the message is closed
   unclosed_told : ends_closed v m ≡ false → In (told 11 1) (tell_all (early (bare_of v m) (room_of x)))
@@ -97,11 +100,11 @@ module _ (v : Service) (m : List ℕ) (x : Lists) where
         go false e = absurd (nowhere (told 12 1) _ q (untyped_told e))
 
     module _ (d : Kind) (o : Of d v m) where
-      judged : (rows : List ℕ) → Reading (chart_for d) (tags_of v m) rows → (k : Fault) → least_of (tell_all (rules_for d (segs_of v m rows))) ≡ k → Some (Reported v m x)
-      judged rows r fault.None e =
+      judged : (rows : List ℕ) → Reading (chart_for d) (tags_of v m) rows → (k : Option Told) → least_of (tell_all (rules_for d (segs_of v m rows))) ≡ k → Some (Reported v m x)
+      judged rows r None e =
           let c = counts_of d (segs_of v m rows) in
           (left (report.Accepted c) (filled d v m rows x), accepted c d o rows r (late_none d v m o (room_of x) rows r q e) refl refl)
-      judged rows r (fault.At n s) e = refuses n s (late_lowest d v m o (room_of x) rows r q n s e)
+      judged rows r (Just k) e = refuses k.number k.segment (late_lowest d v m o (room_of x) rows r q k.number k.segment e)
 
       placing : ((rows : List ℕ) × Placement (chart_for d) (tags_of v m) rows) ⊎ ((j : ℕ) × FailsAt (chart_for d) (tags_of v m) j) → Some (Reported v m x)
       placing (inl p) = judged p.0 (read v m (room_of x) d p.0 p.1) (least_of (tell_all (rules_for d (segs_of v m p.0)))) refl
@@ -113,9 +116,9 @@ module _ (v : Service) (m : List ℕ) (x : Lists) where
     placed_by : Some (Reported v m x)
     placed_by = let d = kind_at v m in placing d (headed_of v m typed) (placed_or_fails (chart_for d) (fine (table_of d) (sound d)) (tags_of v m))
 
-  checks_by : (k : Fault) → least_of (tell_all (early (bare_of v m) (room_of x))) ≡ k → Some (Reported v m x)
-  checks_by fault.None e = placed_by (early_none v m (room_of x) e)
-  checks_by (fault.At n s) e = refuses n s (early_lowest v m (room_of x) n s e)
+  checks_by : (k : Option Told) → least_of (tell_all (early (bare_of v m) (room_of x))) ≡ k → Some (Reported v m x)
+  checks_by None e = placed_by (early_none v m (room_of x) e)
+  checks_by (Just k) e = refuses k.number k.segment (early_lowest v m (room_of x) k.number k.segment e)
 
   checks : Some (Reported v m x)
   checks = checks_by (least_of (tell_all (early (bare_of v m) (room_of x)))) refl
@@ -123,9 +126,9 @@ module _ (v : Service) (m : List ℕ) (x : Lists) where
 -- ---- a step of the walk
 module _ (b : List ℕ) (at : ℕ) (x : Lists) where
   -- a message is found by fit characters alone
-  found_by_lem : (t : Bool) (c : Characters) (a e : ℕ) → if t (frame.refused (refusal 1)) (step_with b at c) ≡ message a e → (v : Service) × (una : ℕ) × (c ≡ Fit v una)
+  found_by_lem : (t : Bool) (c : Option Characters) (a e : ℕ) → if t (frame.refused (refusal numbers.TooLong)) (step_with b at c) ≡ message a e → (v : Service) × (una : ℕ) × (c ≡ Fit v una)
   found_by_lem true c a e q = absurd (let z : ◌≡◌ {A = ℕ} 0 1 = cc in omega arith)
-  found_by_lem false (Fit v una) a e q = (v, una, refl)
+  found_by_lem false (Just k) a e q = (k.service, k.una, refl)
   found_by_lem false Unfit a e q = absurd (let z : ◌≡◌ {A = ℕ} 0 1 = cc in omega arith)
 
   fits_found : (a e : ℕ) → step_from b at ≡ message a e → (v : Service) × (una : ℕ) × (characters_of b ≡ Fit v una)
@@ -133,26 +136,30 @@ module _ (b : List ℕ) (at : ℕ) (x : Lists) where
   fits_found a e q = found_by_lem (ltb 1048576 (length b)) (characters_of b) a e q
 
   steps_by : (k : Step) → step_from b at ≡ k → Some (Walks b at x)
-  steps_by (message a e) q =
+  steps_by (Ok (Just m)) q =
+      let a = m.start in
+      let e = m.end in
       let w = fits_found a e q in
       let g = checks w.0 (between b a e) x in
       (left (walked.Message a e g.0.answer) g.0.lists, walks_message w.0 w.1 a e g.0.answer w.2 (sym q) g.1)
-  steps_by nothing q = (left walked.Nothing x, walks_nothing (sym q) refl)
-  steps_by (frame.refused f) q = (left (walked.Refused f) x, walks_refused f (sym q) refl)
+  steps_by (Ok None) q = (left walked.Nothing x, walks_nothing (sym q) refl)
+  steps_by (Err f) q = (left (walked.Refused f) x, walks_refused f (sym q) refl)
 
   walks : Some (Walks b at x)
   walks = steps_by (step_from b at) refl
 
   judges_by : (k : Step) → step_from b at ≡ k → (w : Walked) × Judges b at w
-  judges_by (message a e) q =
+  judges_by (Ok (Just span)) q =
+      let a = span.start in
+      let e = span.end in
       let w = fits_found a e q in
       let m = between b a e in
       let g = checks w.0 m (lists m m m) in (
         walked.Message a e g.0.answer,
         judges (lists m m m) g.0.lists (enough_at b at w.0 w.1 a e w.2 (sym q) (lists m m m) (bytes_enough w.0 m)) (walks_message w.0 w.1 a e g.0.answer w.2 (sym q) g.1),
       )
-  judges_by nothing q = (walked.Nothing, judges x x (λ v una a e n h. absurd (other a e (h ∙ q))) (walks_nothing (sym q) refl))
-  judges_by (frame.refused f) q = (walked.Refused f, judges x x (λ v una a e n h. absurd (other' a e f (h ∙ q))) (walks_refused f (sym q) refl))
+  judges_by (Ok None) q = (walked.Nothing, judges x x (λ v una a e n h. absurd (other a e (h ∙ q))) (walks_nothing (sym q) refl))
+  judges_by (Err f) q = (walked.Refused f, judges x x (λ v una a e n h. absurd (other' a e f (h ∙ q))) (walks_refused f (sym q) refl))
 
 judging : (v : Service) (m : List ℕ) → (y : Report) × Judged v m y
 judging v m = let g = checks v m (lists m m m) in (g.0.answer, judged-so (lists m m m) g.0.lists (bytes_enough v m) g.1)
@@ -168,9 +175,9 @@ closing : (s : List ℕ) → (c : Closing) × ClosedAs s c
 closing s = (closing_of s, is_closing s (closing_of s) refl)
 
 -- ---- for C
-c_checks : (h m : List ℕ) (x : Lists) (c : Characters) → characters_of h ≡ c → Some (Checked h m x)
-c_checks h m x (Fit v una) e = let g = checks v m x in (left (report_of g.0.answer) g.0.lists, checked v una g.0.answer e g.1 refl)
-c_checks h m x Unfit e = (left (refused_of (refusal 2)) x, unfit e refl refl)
+c_checks : (h m : List ℕ) (x : Lists) (c : Option Characters) → characters_of h ≡ c → Some (Checked h m x)
+c_checks h m x (Just k) e = let g = checks k.service m x in (left (report_of g.0.answer) g.0.lists, checked k.service k.una g.0.answer e g.1 refl)
+c_checks h m x Unfit e = (left (refused_of (refusal numbers.Characters)) x, unfit e refl refl)
 
 c_walks : (b : List ℕ) (at : ℕ) (x : Lists) → Some (Stepped b at x)
 c_walks b at x = let g = walks b at x in (left (step_of g.0.answer) g.0.lists, stepped g.0.answer g.1 refl)

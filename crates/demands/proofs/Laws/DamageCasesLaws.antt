@@ -1,13 +1,14 @@
 -- The cases hold. Assumes nothing.
 use Rattle.std.specs.Prelude.{ℕ, ◌≤◌, ◌≡◌, refl, List, [], ◌∷◌, true, false, length}
 use Rattle.std.proofs.Common.{arith, sym}
+use Rattle.numbers.specs.declared.Number.TheVariants as numbers
 use Rattle.service.specs.Tests.{last_of}
 use Rattle.service.specs.Service.{plain_service, begins_una, characters_of}
 use Rattle.segments.specs.Classes.{class_of}
 use Rattle.segments.specs.SegmentList.{pieces, segments_after}
 use Rattle.parts.specs.Parts.{lex, elements, value_at, value_of}
 use Rattle.values.specs.Text.{text, same_list}
-use Rattle.interchange.specs.declared.Opening.TheVariants.{Opens, Refused}
+use Rattle.interchange.specs.Answers.{Opens, Refused}
 use Rattle.interchange.specs.Messages.{closed, tag_at, extent_of, messages_of}
 use Rattle.interchange.specs.Envelope.{is_reference, is_header, first_at, refusal}
 use Rattle.interchange.specs.Forms.Answers.{opened_by, opening_of}
@@ -112,7 +113,7 @@ unfolding text messages_of extent_of tag_at pieces class_of lex value_of same_li
 row_found = refl
 
 -- ---- the last
-last_refused : opening_of (replaced three (third (text "FTX?"))) ≡ Refused (refusal 4)
+last_refused : opening_of (replaced three (third (text "FTX?"))) ≡ Refused (refusal numbers.End)
 unfolding text characters_of begins_una opening_of opened_by first_at is_header is_reference last_of tag_at pieces class_of lex value_of elements value_at same_list
 last_refused = refl
 
@@ -140,6 +141,6 @@ damage_cases = record {
   row_found = row_found;
   last_one = record { opens = opened three plain_service 0 opens; messages = were; closes = all_closed; precedes = unt_three; ends = refl };
   last_within = λ d. record { low = omega arith; order = omega arith; high = omega arith };
-  last_refused = is_opening (replaced three (third (text "FTX?"))) (Refused (refusal 4)) (sym last_refused);
+  last_refused = is_opening (replaced three (third (text "FTX?"))) (Refused (refusal numbers.End)) (sym last_refused);
   last_opens = opened (replaced three (third (text "FTX"))) plain_service 0 last_opens;
 }

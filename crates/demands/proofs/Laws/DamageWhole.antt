@@ -1,10 +1,11 @@
 -- Demand 3. Assumes nothing.
 use Rattle.std.specs.Prelude.{ℕ, ◌≤◌, ◌≡◌, refl, ◌⊎◌, Bool, true, false, length}
 use Rattle.std.proofs.Common.{arith, sym, ◌∙◌, ap, subst, inl, inr, ⊎_elim}
+use Rattle.numbers.specs.declared.Number.TheVariants as numbers
 use mathlib.Core.List.{List, [], ◌∷◌, ◌++◌, map}
 use Rattle.service.specs.declared.Service.{Service}
 use Rattle.service.specs.Tests.{last_of}
-use Rattle.interchange.specs.declared.Opening.TheVariants.{Opens, Refused}
+use Rattle.interchange.specs.Answers.{Opens, Refused}
 use Rattle.interchange.specs.Messages.{Extent, closed, is_closed, starts_at, ends_at, bytes_of, messages_of}
 use Rattle.interchange.specs.Envelope.{refusal, body_of}
 use Rattle.interchange.specs.Opened.{Opened, OpenedAs}
@@ -108,9 +109,9 @@ reaching s v first before a t z e m after o c w h =
 
 -- the last one
 pub last_hit : (s : List ℕ) (v : Service) (first : ℕ) (before : List Extent) (a t z e : ℕ) → One s v first before a t z e [] → (c : Stretch) → Within a z c → length (replaced s c) ≤ 1048576
-    → Opened (replaced s c) v first ⊎ OpenedAs (replaced s c) (Refused (refusal 4))
+    → Opened (replaced s c) v first ⊎ OpenedAs (replaced s c) (Refused (refusal numbers.End))
 last_hit s v first before a t z e o c w h =
-    ⊎_elim (λ x. inl (opened (replaced s c) v first x)) (λ x. inr (is_opening (replaced s c) (Refused (refusal 4)) (sym x)))
+    ⊎_elim (λ x. inl (opened (replaced s c) v first x)) (λ x. inr (is_opening (replaced s c) (Refused (refusal numbers.End)) (sym x)))
     (opens_or_refused s v first (opens s v first o.opens) before a e [] o.messages z o.ends c w h)
 
 -- every message that has its own UNT, as has the one before it, if there is one, is such a message

@@ -7,7 +7,7 @@ use Rattle.segments.specs.Classes.{class_of}
 use Rattle.segments.specs.SegmentList.{pieces, segments_after}
 use Rattle.parts.specs.Parts.{lex, elements, value_at, value_of}
 use Rattle.values.specs.Text.{text, same_list}
-use Rattle.interchange.specs.declared.Opening.TheVariants.{Opens}
+use Rattle.interchange.specs.Answers.{Opens}
 use Rattle.interchange.specs.Messages.{Extent, closed, unclosed, starts_at, ends_at, tag_at, extent_of, messages_of, cut_before, found_in}
 use Rattle.interchange.specs.Envelope.{is_reference, is_header, first_at, body_of}
 use Rattle.interchange.specs.Forms.Answers.{opened_by, opening_of}
@@ -15,6 +15,7 @@ use Rattle.interchange.specs.Laws.OpenedLaws.{opened}
 use Rattle.damage.specs.Damage.{Before, here, later, Mark, whole, replaced, Beside}
 use Rattle.damage.specs.Damage as damage
 use Rattle.walk.specs.Frame.{message, step_at, step_from}
+use Rattle.walk.specs.Laws.FrameLaws.{one_end}
 use Rattle.demands.specs.Runs.{Steps}
 use Rattle.demands.specs.Runs as runs
 use Rattle.demands.specs.OtherMessages.{Unhurt}
@@ -61,8 +62,7 @@ first_ends : (s : List ℕ) (e : ℕ) → step_from s 0 ≡ message 21 e → {l 
 first_ends s e q (runs.done at o) m ms r = absurd (let z : ◌≡◌ {A = ℕ} 0 1 = cc in omega arith)
 first_ends s e q (runs.next at x xs o t) m ms r =
     let a : x ≡ m = cc in
-    let b : message 21 e ≡ message (starts_at x) (ends_at x) = sym q ∙ o in
-    cc
+    one_end 21 e (starts_at x) (ends_at x) (sym q ∙ o) ∙ ap ends_at a
 
 -- a whole first message is found first, and ends where it did
 first_found : (s s' : List ℕ) (e : ℕ) → step_from s' 0 ≡ message 21 e → {k : List Mark} {l l' : List Extent} → Steps s' 0 l' → Beside (Unhurt s s') 0 0 k l l'

@@ -3,27 +3,29 @@ use Prim.Native.Nat.{ℕ, zero, suc, ◌+◌, ◌≤◌, ◌<◌}
 use native.Mathlib.Omega.{arith}
 use Rattle.std.proofs.Math.Path.{◌≡◌, refl, ap, subst}
 use Rattle.std.proofs.Common.{sym, ◌∙◌, inl, inr}
-use Rattle.std.specs.Prelude.{◌⊎◌, Bool, ◌||◌, length, eqb, leb, ltb}
+use Rattle.std.specs.Prelude.{◌⊎◌, Bool, ◌||◌, length, eqb, leb, ltb, Option, None, Some, Ok, Err}
 use mathlib.Core.List.{List, [], ◌∷◌, ◌++◌, map}
 use Rattle.std.proofs.Math.Bool.{true, false}
 use Rattle.std.proofs.Math.ListN.{drop, length-map}
 use Rattle.std.proofs.Math.Seq.{drop-append_seam}
-use borrow.Author.Tests.{leb-false, ne_eqb}
+use borrow.Author.Tests.{eqb-true, leb-false, ne_eqb}
+use Rattle.numbers.specs.declared.Number.{Number}
+use Rattle.numbers.specs.Table.{table_number}
+use Rattle.numbers.specs.Table.{number_told}
+use Rattle.numbers.specs.declared.Number.TheVariants as numbers
 use Rattle.service.specs.declared.Service.{Service}
 use Rattle.service.specs.declared.Characters.{Characters}
-use Rattle.service.specs.declared.Characters.TheVariants.{Fit, Unfit}
-use Rattle.service.specs.Service.{among, Fits, fitting, characters_of}
+use Rattle.service.specs.Service.{Fit, Unfit, among, Fits, fitting, characters_of}
 use Rattle.service.specs.Laws.FitLaws.{fits_if}
 use Rattle.service.specs.Tests.{if}
-use Rattle.segments.specs.SegmentList.{segments_from, starts_of, start_at}
+use Rattle.segments.specs.declared.Piece.{Piece}
+use Rattle.segments.specs.SegmentList.{segments_from, segments_after, all_finished, starts_of, start_at}
 use Rattle.segments.specs.Laws.StartsLaws.{starts_past, starts_count, starts_here}
 use Rattle.interchange.specs.declared.Refusal.{Refusal}
-use Rattle.interchange.specs.declared.Opening.{Opening}
-use Rattle.interchange.specs.declared.Opening.TheVariants as opening
-use Rattle.interchange.specs.declared.Closing.{Closing}
-use Rattle.interchange.specs.declared.Found.{Found}
-use Rattle.interchange.specs.declared.Found.TheVariants as found
-use Rattle.interchange.specs.Messages.{ends_closed, found_from}
+use Rattle.interchange.specs.Answers.{Opening, Closing, Found}
+use Rattle.interchange.specs.Answers as opening
+use Rattle.interchange.specs.Finds as found
+use Rattle.interchange.specs.Messages.{Extent, starts_at, ends_at, messages_of, cut_before, ends_closed, found_by, found_in, found_from}
 use Rattle.interchange.specs.Envelope.{refusal, opening_number}
 use Rattle.interchange.specs.Opened.{OpenFault, long, unfit as unfit_characters, headless, endless, OpenedAs, accepted as opens_as, refused as refused_as}
 use Rattle.interchange.specs.Closed.{CloseFault, count, reference, stray, LeastOrNone, least, none, ClosedAs, unopened, closes as closes_as}
@@ -45,8 +47,8 @@ use Rattle.message.specs.Rules.{totals_of}
 use Rattle.message.specs.Kinds.{chart_for, rules_for, totals_for, order_count}
 use Rattle.message.specs.Faults.{rank, told, tell, tell_all}
 use Rattle.report.specs.declared.Counts.{Counts}
-use Rattle.report.specs.declared.Report.{Report}
-use Rattle.report.specs.declared.Report.TheVariants as report
+use Rattle.report.specs.Answers.{Report}
+use Rattle.report.specs.Answers as report
 use Rattle.report.specs.Reported.{Room, raw_of, bare_of, told_unless, rule10, fits, early, In, here, there, Applies, soon, misfit, late, Lowest, offset_of, counts_of, filled, room_of, Reported, accepted, refused}
 use Rattle.report.specs.Reported as reported
 use Rattle.report.specs.Laws.ToldLaws.{Every, every, All, all_told}
@@ -54,33 +56,33 @@ use Rattle.report.specs.Laws.SmallLaws.{late_within}
 use Rattle.report.specs.Laws.FillLaws.{rows_are, placed_length, totals_count}
 use Rattle.report.specs.Laws.PieceLaws.{pieces_tags}
 use Rattle.report.specs.Laws.RefusalLaws.{refusal_place}
-use Rattle.walk.specs.declared.Walked.{Walked}
-use Rattle.walk.specs.declared.Walked.TheVariants as walked
-use Rattle.walk.specs.Frame.{Step, message, nothing, step_by, step_at, step_with, step_from}
+use Rattle.walk.specs.Steps.{Walked}
+use Rattle.walk.specs.Steps as walked
+use Rattle.walk.specs.Frame.{Step, step_at, step_with, step_from}
 use Rattle.walk.specs.Frame as frame
 use Rattle.walk.specs.Walks.{between, Walks, walks_message, walks_nothing, walks_refused, Judges, judges}
 use Rattle.report.specs.Judged.{Judged, judged}
-use Rattle.rewrite.specs.declared.Rewriting.{Rewriting}
-use Rattle.rewrite.specs.declared.Rewriting.TheVariants as rewriting
+use Rattle.rewrite.specs.Answers.{Rewriting}
+use Rattle.rewrite.specs.Answers as rewriting
 use Rattle.rewrite.specs.Plain.{rewritten, rewriting_by, rewriting_of, room_by, room_after}
 use Rattle.rewrite.specs.Plain as plain
 use Rattle.twineherald.specs.declared.ReportNumbers.{ReportNumbers}
 use Rattle.twineherald.specs.declared.StepNumbers.{StepNumbers}
 use Rattle.twineherald.specs.declared.RewritingNumbers.{RewritingNumbers}
 use Rattle.twineherald.specs.declared.ClosingNumbers.{ClosingNumbers}
-use Rattle.twineherald.specs.Numbers.{report_of, step_of, rewriting_numbers, OpenedWith, opened as opened_with, ClosedWith, closed as closed_with, Stepped, stepped, Checked, checked, unfit, Rewritten}
+use Rattle.twineherald.specs.Numbers.{report_of, step_of, rewriting_numbers, closing_numbers, OpenedWith, opened as opened_with, ClosedWith, closed as closed_with, Stepped, stepped, Checked, checked, unfit, Rewritten}
 use Rattle.twineherald.specs.Several.{numbers_of, Answered as AnsweredAt, answered, SteppedEach, given, shorter}
 use Rattle.twineherald.specs.Laws.SeveralLaws.{numbers_one}
-use Rattle.demands.specs.Refusals.{by_opening, by_walking, by_rewriting, by_closing, by_segment, Nowhere, Tabled, nowhere, byte, head, last, segment, TabledIn, Beyond, refusal_in, counts_in, Refusals}
+use Rattle.demands.specs.Refusals.{by_opening, by_walking, by_rewriting, by_closing, by_segment, Nowhere, Tabled, nowhere, byte, head, last, segment, TabledIn, Beyond, Given, given_by, refusal_in, counts_in, Refusals}
 
 -- ---- a refusal at 0, 0
-at_none : (n : ℕ) (numbers : List ℕ) → among n numbers ≡ true → Nowhere numbers (refusal n)
+at_none : (n : Number) (numbers : List ℕ) → among (table_number n) numbers ≡ true → Nowhere numbers (given_by (refusal n))
 at_none n numbers h = record { number = h; segment = refl; offset = refl }
 
 -- ---- opening
 abbrev Opened : Opening → Type 0
-Opened (opening.Opens v first) = Unit {0}
-Opened (opening.Refused f) = Nowhere by_opening f
+Opened (Ok o) = Unit {0}
+Opened (Err f) = Nowhere by_opening (given_by f)
 
 fault_one : (s : List ℕ) (n : ℕ) → OpenFault s n → among n by_opening ≡ true
 unfolding among
@@ -91,9 +93,9 @@ fault_one s n (endless v una c w e) = rw e
 
 opened : (s : List ℕ) {o : Opening} → OpenedAs s o → Opened o
 opened s (opens_as v first w) = tt
-opened s (refused_as n l) = at_none n by_opening (fault_one s n l.one)
+opened s (refused_as n l) = at_none n by_opening (fault_one s (table_number n) l.one)
 
-opens : (s : List ℕ) (f : Refusal) → OpenedAs s (opening.Refused f) → Nowhere by_opening f
+opens : (s : List ℕ) (f : Refusal) → OpenedAs s (opening.Refused f) → Nowhere by_opening (given_by f)
 opens s f w = opened s w
 
 or_right : (a b : Bool) → b ≡ true → (a || b) ≡ true
@@ -107,8 +109,8 @@ or_none n numbers h = or_right (eqb n 0) (among n numbers) h
 
 number_by : (o : Opening) → Opened o → among (opening_number o) (0 ∷ by_opening) ≡ true
 unfolding among
-number_by (opening.Opens v first) h = refl
-number_by (opening.Refused f) h = or_none f.number by_opening h.number
+number_by (Ok o) h = refl
+number_by (Err f) h = or_none (table_number f.number) by_opening h.number
 
 -- ---- closing
 or_more : (a b c : Bool) → (b ≡ true → c ≡ true) → (a || b) ≡ true → (a || c) ≡ true
@@ -131,9 +133,21 @@ unfolding among
 closing_number_lem v s first n (least l) = closing_one v s first n l.one
 closing_number_lem v s first n (none w e) = rw e
 
-closed_by_lem : (s : List ℕ) {c : Closing} → ClosedAs s c → among c.number (0 ∷ by_closing) ≡ true
-closed_by_lem s (unopened n l) = or_none n by_closing (among_more n by_opening (5 ∷ 6 ∷ 7 ∷ []) (fault_one s n l.one))
-closed_by_lem s (closes_as v first n o l) = closing_number_lem v s first n l
+closed_by_lem : (s : List ℕ) {c : Closing} → ClosedAs s c → among (closing_numbers c).number (0 ∷ by_closing) ≡ true
+closed_by_lem s (unopened n l) = or_none (table_number n) by_closing (among_more (table_number n) by_opening (5 ∷ 6 ∷ 7 ∷ []) (fault_one s (table_number n) l.one))
+closed_by_lem s (closes_as v first n o l) = closing_number_lem v s first (number_told n) l
+
+-- a refusal of closing is one of opening
+abbrev Shut : Closing → Type 0
+Shut (Ok c) = Unit {0}
+Shut (Err f) = Nowhere by_opening (given_by f)
+
+shut : (s : List ℕ) {c : Closing} → ClosedAs s c → Shut c
+shut s (unopened n l) = at_none n by_opening (fault_one s (table_number n) l.one)
+shut s (closes_as v first n o l) = tt
+
+shuts : (s : List ℕ) (f : Refusal) → ClosedAs s (Err f) → Nowhere by_opening (given_by f)
+shuts s f w = shut s w
 
 c_opens : (b : List ℕ) (x : ℕ) → OpenedWith b x → among x (0 ∷ by_opening) ≡ true
 c_opens b x (opened_with o w e) = subst (λ (n : ℕ). among n (0 ∷ by_opening) ≡ true) (sym e) (number_by o (opened b w))
@@ -148,6 +162,31 @@ data Row (k n s : ℕ) : Type 0 where
   row_head : among n (11 ∷ 12 ∷ []) ≡ true → s ≡ 1 → Row k n s
   row_last : n ≡ 13 → s ≡ 10000 → 10000 ≤ k → Row k n s
   row_segment : among n by_segment ≡ true → 1 ≤ s → s ≤ k → Row k n s
+
+-- a case for each of these numbers
+abbrev Cases : List ℕ → Type 0
+Cases [] = Unit {0}
+Cases (n ∷ l) = ((c : Number) × (table_number c ≡ n)) × Cases l
+
+case_by : (n x : ℕ) (l : List ℕ) → (c : Number) × (table_number c ≡ x) → (among n l ≡ true → (c : Number) × (table_number c ≡ n)) → (b : Bool) → eqb n x ≡ b → (b || among n l) ≡ true
+    → (c : Number) × (table_number c ≡ n)
+case_by n x l u rest true e h = (u.0, u.1 ∙ sym (eqb-true n x e))
+case_by n x l u rest false e h = rest h
+
+case_in : (n : ℕ) (l : List ℕ) → Cases l → among n l ≡ true → (c : Number) × (table_number c ≡ n)
+unfolding among
+case_in n [] u h = absurd (let z : ◌≡◌ {A = ℕ} 0 1 = cc in omega arith)
+case_in n (x ∷ l) u h = case_by n x l u.0 (case_in n l u.1) (eqb n x) refl h
+
+row_case : (k n s : ℕ) → Row k n s → (c : Number) × (table_number c ≡ n)
+row_case k n s (row_none e q) = case_in n (1 ∷ 2 ∷ 14 ∷ []) ((numbers.TooLong, refl), ((numbers.Characters, refl), ((numbers.Lists, refl), tt))) e
+row_case k n s (row_byte e a b) = (numbers.Byte, sym e)
+row_case k n s (row_head e q) = case_in n (11 ∷ 12 ∷ []) ((numbers.Unclosed, refl), ((numbers.Type, refl), tt)) e
+row_case k n s (row_last e q h) = (numbers.TooMany, sym e)
+row_case k n s (row_segment e a b) =
+    case_in n by_segment
+    ((numbers.Placement, refl), ((numbers.TrailerCount, refl), ((numbers.TrailerReference, refl), ((numbers.LineNumber, refl), ((numbers.SequenceNumber, refl), ((numbers.Amount, refl), ((numbers.Qualifier, refl), ((numbers.Currency, refl), ((numbers.Exchange, refl), ((numbers.Total, refl), ((numbers.Parties, refl), ((numbers.Details, refl), ((numbers.Control, refl), ((numbers.Dates, refl), ((numbers.References, refl), tt)))))))))))))))
+    e
 
 unless_is : (P : ℕ → Type 0) (b : Bool) (s : ℕ) → (b ≡ false → P s) → Every P (told_unless b s)
 unless_is P true s h = tt
@@ -225,6 +264,10 @@ module _ (v : Service) (m : List ℕ) where
       row_segment (late_known c n s (segs_of v m rows) i) a (omega arith)
 
   -- a message with a segment has bytes
+  -- every number that applies is that of a case
+  pub applies_case : (x : Room) (n s : ℕ) → Applies v m x n s → (c : Number) × (table_number c ≡ n)
+  applies_case x n s a = row_case many n s (row_of x n s a)
+
   has_bytes : 1 ≤ many → 0 < length m
   has_bytes h = go (length m) refl
     where
@@ -273,19 +316,19 @@ module _ (v : Service) (m : List ℕ) where
   pred zero h = absurd (omega arith)
   pred (suc k) h = (k, refl)
 
-  module _ (x x' : Lists) (f : Refusal) (w : Reported v m x x' (report.Refused f)) (l : Lowest v m (room_of x) f.number f.segment) (o : f.offset ≡ offset_of v m f.number f.segment) where
-    starts_at_lem : (numbers : List ℕ) → among 10 numbers ≡ false → among f.number numbers ≡ true → (k : ℕ) → f.segment ≡ suc k → f.offset ≡ start_at v m k
-    starts_at_lem numbers h e k q = o ∙ ap (offset_of v m f.number) q ∙ offset_start f.number k (not_ten numbers h f.number e)
+  module _ (x x' : Lists) (f : Refusal) (w : Reported v m x x' (report.Refused f)) (l : Lowest v m (room_of x) (table_number f.number) f.segment) (o : f.offset ≡ offset_of v m (table_number f.number) f.segment) where
+    starts_at_lem : (numbers : List ℕ) → among 10 numbers ≡ false → among (table_number f.number) numbers ≡ true → (k : ℕ) → f.segment ≡ suc k → f.offset ≡ start_at v m k
+    starts_at_lem numbers h e k q = o ∙ ap (offset_of v m (table_number f.number)) q ∙ offset_start (table_number f.number) k (not_ten numbers h (table_number f.number) e)
 
-    tabled : Row many f.number f.segment → Tabled v m f
+    tabled : Row many (table_number f.number) f.segment → Tabled v m (given_by f)
     unfolding among
-    tabled (row_none e q) = nowhere (record { number = e; segment = q; offset = o ∙ ap (offset_of v m f.number) q ∙ offset_none f.number })
+    tabled (row_none e q) = nowhere (record { number = e; segment = q; offset = o ∙ ap (offset_of v m (table_number f.number)) q ∙ offset_none (table_number f.number) })
     tabled (row_byte e a b) =
         let k = pred f.segment a in
         let n = k.0 in
         let q : f.segment ≡ suc n = k.1 in
         let u = (refusal_place v m (has_bytes (omega arith)) x x' f w).1 n q in
-        let t = ten_fits (room_of x) f.number f.segment l e in
+        let t = ten_fits (room_of x) (table_number f.number) f.segment l e in
         byte n e (record { segment = q; some = u.some }) (u.from t e) (u.to t e)
     tabled (row_head e q) = head e q (starts_at_lem (11 ∷ 12 ∷ []) refl e 0 q ∙ first_start)
     tabled (row_last e q h) =
@@ -297,13 +340,13 @@ module _ (v : Service) (m : List ℕ) where
         segment n e (record { segment = q; some = omega arith }) (starts_at_lem by_segment refl e n q)
 
   module _ (x x' : Lists) where
-    check_by : (y : Report) → Reported v m x x' y → (f : Refusal) → y ≡ report.Refused f → Tabled v m f × (x' ≡ x)
+    check_by : (y : Report) → Reported v m x x' y → (f : Refusal) → y ≡ report.Refused f → Tabled v m (given_by f) × (x' ≡ x)
     check_by y (accepted c k i rows a free e p) f u = absurd (let z : ◌≡◌ {A = ℕ} 0 1 = cc in omega arith)
     check_by y (refused g l o p) f u =
         let z : g ≡ f = cc in
-        (subst (Tabled v m) z (tabled x x' g (refused g l o p) l o (row_of (room_of x) g.number g.segment l.applies)), p)
+        (subst (λ (k : Refusal). Tabled v m (given_by k)) z (tabled x x' g (refused g l o p) l o (row_of (room_of x) (table_number g.number) g.segment l.applies)), p)
 
-    pub checks : (f : Refusal) → Reported v m x x' (report.Refused f) → Tabled v m f × (x' ≡ x)
+    pub checks : (f : Refusal) → Reported v m x x' (report.Refused f) → Tabled v m (given_by f) × (x' ≡ x)
     checks f w = check_by (report.Refused f) w f refl
 
     -- acceptance
@@ -338,47 +381,48 @@ module _ (v : Service) (m : List ℕ) where
 
 -- ---- the walk
 abbrev Went : Step → Type 0
-Went (message a e) = Unit {0}
-Went nothing = Unit {0}
-Went (frame.refused f) = Nowhere by_walking f
+Went (Ok o) = Unit {0}
+Went (Err f) = Nowhere by_walking (given_by f)
 
-went_by : (k : Found) → Went (step_by k)
+went_if : (b : Bool) (k k' : Found) → Went k → Went k' → Went (if b k k')
+went_if true k k' h h' = h
+went_if false k k' h h' = h'
+
+went_by : (ms : List Extent) (l : List Piece) → Went (found_by ms l)
 unfolding among
-went_by (found.Message a e) = tt
-went_by found.Nothing = tt
-went_by found.Unfinished = at_none 4 by_walking refl
+went_by [] l = went_if (all_finished l) found.Nothing found.Unfinished tt (at_none numbers.End by_walking refl)
+went_by (m ∷ ms) l = went_if (cut_before (ends_at m) l) found.Unfinished (found.Message (starts_at m) (ends_at m)) (at_none numbers.End by_walking refl) tt
+
+went_found : (v : Service) (s : List ℕ) (at : ℕ) → Went (found_from v s at)
+unfolding found_in
+went_found v s at = went_by (messages_of v s (segments_after v s at)) (segments_after v s at)
 
 went_at : (v : Service) (s : List ℕ) (at : ℕ) → Went (step_at v s at)
 unfolding step_at among
-went_at v s at = go (ltb (length s) at)
-  where
-    go : (b : Bool) → Went (if b (frame.refused (refusal 8)) (step_by (found_from v s at)))
-    go true = at_none 8 by_walking refl
-    go false = went_by (found_from v s at)
+went_at v s at = went_if (ltb (length s) at) (frame.refused (refusal numbers.Position)) (found_from v s at) (at_none numbers.Position by_walking refl) (went_found v s at)
 
-went_with : (s : List ℕ) (at : ℕ) (c : Characters) → Went (step_with s at c)
+went_with : (s : List ℕ) (at : ℕ) (c : Option Characters) → Went (step_with s at c)
 unfolding among
-went_with s at (Fit v una) = went_at v s at
-went_with s at Unfit = at_none 2 by_walking refl
+went_with s at (Some k) = went_at k.service s at
+went_with s at Unfit = at_none numbers.Characters by_walking refl
 
 went : (s : List ℕ) (at : ℕ) → Went (step_from s at)
 unfolding step_from among
-went s at = go (ltb 1048576 (length s))
-  where
-    go : (b : Bool) → Went (if b (frame.refused (refusal 1)) (step_with s at (characters_of s)))
-    go true = at_none 1 by_walking refl
-    go false = went_with s at (characters_of s)
+went s at = went_if (ltb 1048576 (length s)) (frame.refused (refusal numbers.TooLong)) (step_with s at (characters_of s)) (at_none numbers.TooLong by_walking refl) (went_with s at (characters_of s))
 
 -- whatever the walk answers
-abbrev Told : List ℕ → Lists → Lists → Walked → Type 0
-Told b x x' (walked.Message a e (report.Accepted c)) = Beyond c x x'
-Told b x x' (walked.Message a e (report.Refused f)) = TabledIn b (between b a e) f × (x' ≡ x)
-Told b x x' walked.Nothing = x' ≡ x
-Told b x x' (walked.Refused f) = Nowhere by_walking f × (x' ≡ x)
+abbrev Message : List ℕ → Lists → Lists → ℕ → ℕ → Report → Type 0
+Message b x x' a e (Ok c) = Beyond c x x'
+Message b x x' a e (Err f) = TabledIn b (between b a e) (given_by f) × (x' ≡ x)
 
-message_told : (b : List ℕ) (x x' : Lists) (v : Service) (una : ℕ) → characters_of b ≡ Fit v una → (a e : ℕ) (y : Report) → Reported v (between b a e) x x' y → Told b x x' (walked.Message a e y)
-message_told b x x' v una c a e (report.Accepted k) w = beyond v (between b a e) x x' k w
-message_told b x x' v una c a e (report.Refused f) w =
+abbrev Told : List ℕ → Lists → Lists → Walked → Type 0
+Told b x x' (Ok (Some m)) = Message b x x' m.start m.end m.report
+Told b x x' (Ok None) = x' ≡ x
+Told b x x' (Err f) = Nowhere by_walking (given_by f) × (x' ≡ x)
+
+message_told : (b : List ℕ) (x x' : Lists) (v : Service) (una : ℕ) → characters_of b ≡ Fit v una → (a e : ℕ) (y : Report) → Reported v (between b a e) x x' y → Message b x x' a e y
+message_told b x x' v una c a e (Ok k) w = beyond v (between b a e) x x' k w
+message_told b x x' v una c a e (Err f) w =
     let z = checks v (between b a e) x x' f w in
     (record { characters = v; una = una; fit = c; tabled = z.0 }, z.1)
 
@@ -388,34 +432,34 @@ walk_told b at x x' y (walks_nothing p i) = i
 walk_told b at x x' y (walks_refused g p i) = (subst Went (sym p) (went b at), i)
 
 -- ---- with lists that are long enough
-judges_told : (v : Service) (m : List ℕ) (f : Refusal) → Judged v m (report.Refused f) → Tabled v m f
+judges_told : (v : Service) (m : List ℕ) (f : Refusal) → Judged v m (report.Refused f) → Tabled v m (given_by f)
 judges_told v m f (judged x x' e w) = (checks v m x x' f w).0
 
-walk_judges : (b : List ℕ) (at : ℕ) (f : Refusal) → Judges b at (walked.Refused f) → Nowhere by_walking f
+walk_judges : (b : List ℕ) (at : ℕ) (f : Refusal) → Judges b at (walked.Refused f) → Nowhere by_walking (given_by f)
 walk_judges b at f (judges x x' l w) = (walk_told b at x x' (walked.Refused f) w).0
 
-message_judges : (b : List ℕ) (at a e : ℕ) (f : Refusal) → Judges b at (walked.Message a e (report.Refused f)) → TabledIn b (between b a e) f
+message_judges : (b : List ℕ) (at a e : ℕ) (f : Refusal) → Judges b at (walked.Message a e (report.Refused f)) → TabledIn b (between b a e) (given_by f)
 message_judges b at a e f (judges x x' l w) = (walk_told b at x x' (walked.Message a e (report.Refused f)) w).0
 
 -- ---- rewriting
 abbrev Wrote : List ℕ → List ℕ → Rewriting → Type 0
-Wrote new old (rewriting.Written n) = n ≡ length new
-Wrote new old (rewriting.Refused f) = Nowhere by_rewriting f
+Wrote new old (Ok n) = n ≡ length new
+Wrote new old (Err f) = Nowhere by_rewriting (given_by f)
 
 wrote_by : (new old : List ℕ) (o : Opening) → Opened o → Wrote new old (rewriting_by o (length new) (length old))
 unfolding among
-wrote_by new old (opening.Opens v first) h = go (plain.fits (length new) (length old))
+wrote_by new old (Ok o) h = go (plain.fits (length new) (length old))
   where
-    go : (b : Bool) → Wrote new old (if b (rewriting.Written (length new)) (rewriting.Refused (refusal 9)))
+    go : (b : Bool) → Wrote new old (if b (rewriting.Written (length new)) (rewriting.Refused (refusal numbers.Room)))
     go true = refl
-    go false = at_none 9 by_rewriting refl
-wrote_by new old (opening.Refused f) h = record { number = among_more f.number by_opening (9 ∷ []) h.number; segment = h.segment; offset = h.offset }
+    go false = at_none numbers.Room by_rewriting refl
+wrote_by new old (Err f) h = record { number = among_more (table_number f.number) by_opening (9 ∷ []) h.number; segment = h.segment; offset = h.offset }
 
 wrote : (s old : List ℕ) → Wrote (rewritten s) old (rewriting_of s (length old))
 unfolding rewriting_of
 wrote s old = wrote_by (rewritten s) old (opening_of s) (opened s (is_opening s (opening_of s) refl))
 
-rewrites : (s o : List ℕ) (f : Refusal) → rewriting_of s (length o) ≡ rewriting.Refused f → Nowhere by_rewriting f × (room_after s o ≡ o)
+rewrites : (s o : List ℕ) (f : Refusal) → rewriting_of s (length o) ≡ rewriting.Refused f → Nowhere by_rewriting (given_by f) × (room_after s o ≡ o)
 unfolding room_after
 rewrites s o f e = (subst (Wrote (rewritten s) o) e (wrote s o), ap (λ (k : Rewriting). room_by k (rewritten s) o) e)
 
@@ -427,30 +471,33 @@ rewrites_beyond s o n e =
     ∙ subst (λ (k : ℕ). drop k (rewritten s ++ drop (length (rewritten s)) o) ≡ drop k o) (sym q) (drop-append_seam (rewritten s) (drop (length (rewritten s)) o))
 
 -- ---- for C
-abbrev Answered : (Refusal → Type 0) → Lists → Lists → ReportNumbers → Type 0
+abbrev Answered : (Given → Type 0) → Lists → Lists → ReportNumbers → Type 0
 Answered P x x' y = (y.number ≡ 0 → ⊥) → P (refusal_in y) × (x' ≡ x)
 
 c_report : (v : Service) (m : List ℕ) (x x' : Lists) (w : Report) → Reported v m x x' w → Answered (Tabled v m) x x' (report_of w)
-c_report v m x x' (report.Accepted c) h g = absurd (g refl)
-c_report v m x x' (report.Refused f) h g = checks v m x x' f h
+c_report v m x x' (Ok c) h g = absurd (g refl)
+c_report v m x x' (Err f) h g = checks v m x x' f h
 
-abbrev OnCheck : List ℕ → List ℕ → Refusal → Type 0
+abbrev OnCheck : List ℕ → List ℕ → Given → Type 0
 OnCheck h m f = Nowhere (2 ∷ []) f ⊎ TabledIn h m f
 
 c_checks : (h m : List ℕ) (x x' : Lists) (y : ReportNumbers) → Checked h m x x' y → Answered (OnCheck h m) x x' y
 unfolding among
 c_checks h m x x' y (checked v una w p l e) =
     subst (Answered (OnCheck h m) x x') (sym e) (λ g. let z = c_report v m x x' w l g in (inr (record { characters = v; una = una; fit = p; tabled = z.0 }), z.1))
-c_checks h m x x' y (unfit q e p) = subst (Answered (OnCheck h m) x x') (sym e) (λ g. (inl (at_none 2 (2 ∷ []) refl), p))
+c_checks h m x x' y (unfit q e p) = subst (Answered (OnCheck h m) x x') (sym e) (λ g. (inl (at_none numbers.Characters (2 ∷ []) refl), p))
 
 abbrev OnWalk : List ℕ → StepNumbers → Type 0
 OnWalk b y = Nowhere by_walking (refusal_in y.report) ⊎ TabledIn b (between b y.start y.end) (refusal_in y.report)
 
+c_message : (b : List ℕ) (x x' : Lists) (a e : ℕ) (y : Report) → Message b x x' a e y → ((report_of y).number ≡ 0 → ⊥) → OnWalk b (step_of (walked.Message a e y)) × (x' ≡ x)
+c_message b x x' a e (Ok c) h g = absurd (g refl)
+c_message b x x' a e (Err f) h g = (inr h.0, h.1)
+
 c_told : (b : List ℕ) (x x' : Lists) (w : Walked) → Told b x x' w → ((step_of w).report.number ≡ 0 → ⊥) → OnWalk b (step_of w) × (x' ≡ x)
-c_told b x x' (walked.Message a e (report.Accepted c)) h g = absurd (g refl)
-c_told b x x' (walked.Message a e (report.Refused f)) h g = (inr h.0, h.1)
-c_told b x x' walked.Nothing h g = absurd (g refl)
-c_told b x x' (walked.Refused f) h g = (inl h.0, h.1)
+c_told b x x' (Ok (Some m)) h g = c_message b x x' m.start m.end m.report h g
+c_told b x x' (Ok None) h g = absurd (g refl)
+c_told b x x' (Err f) h g = (inl h.0, h.1)
 
 c_walks : (b : List ℕ) (at : ℕ) (x x' : Lists) (y : StepNumbers) → Stepped b at x x' y → (y.report.number ≡ 0 → ⊥) → OnWalk b y × (x' ≡ x)
 c_walks b at x x' y (stepped w l e) = subst (λ (k : StepNumbers). (k.report.number ≡ 0 → ⊥) → OnWalk b k × (x' ≡ x)) (sym e) (c_told b x x' w (walk_told b at x x' w l))
@@ -465,8 +512,8 @@ c_answers b at y (answered x x' z l w q) g =
     subst (OnWalk b) (sym e) (c_walks b at x x' z w (λ h. g (ap (λ (k : StepNumbers). k.report.number) e ∙ h))).0
 
 c_room : (s o : List ℕ) (w : Rewriting) → rewriting_of s (length o) ≡ w → ((rewriting_numbers w).number ≡ 0 → ⊥) → (among (rewriting_numbers w).number by_rewriting ≡ true) × (room_after s o ≡ o)
-c_room s o (rewriting.Written n) e g = absurd (g refl)
-c_room s o (rewriting.Refused f) e g = let z = rewrites s o f e in (z.0.number, z.1)
+c_room s o (Ok n) e g = absurd (g refl)
+c_room s o (Err f) e g = let z = rewrites s o f e in (z.0.number, z.1)
 
 c_rewrites : (b o o' : List ℕ) (y : RewritingNumbers) → Rewritten b y o o' → (y.number ≡ 0 → ⊥) → (among y.number by_rewriting ≡ true) × (o' ≡ o)
 c_rewrites b o o' y w g =
@@ -479,25 +526,28 @@ same_beyond : (c : Counts) (x x' : Lists) → x' ≡ x → Beyond c x x'
 same_beyond c x x' e = subst (Beyond c x) (sym e) (record { rows = refl; starts = refl; totals = refl })
 
 report_beyond : (v : Service) (m : List ℕ) (x x' : Lists) (w : Report) → Reported v m x x' w → Beyond (counts_in (report_of w)) x x'
-report_beyond v m x x' (report.Accepted c) h = beyond v m x x' c h
-report_beyond v m x x' (report.Refused f) h = same_beyond _ x x' (checks v m x x' f h).1
+report_beyond v m x x' (Ok c) h = beyond v m x x' c h
+report_beyond v m x x' (Err f) h = same_beyond _ x x' (checks v m x x' f h).1
 
 check_on : (h m : List ℕ) (x x' : Lists) (y : ReportNumbers) → Checked h m x x' y → Beyond (counts_in y) x x'
 check_on h m x x' y (checked v una w p l e) = subst (λ (k : ReportNumbers). Beyond (counts_in k) x x') (sym e) (report_beyond v m x x' w l)
 check_on h m x x' y (unfit q e p) = same_beyond (counts_in y) x x' p
 
+message_beyond : (b : List ℕ) (x x' : Lists) (a e : ℕ) (y : Report) → Message b x x' a e y → Beyond (counts_in (report_of y)) x x'
+message_beyond b x x' a e (Ok c) h = h
+message_beyond b x x' a e (Err f) h = same_beyond _ x x' h.1
+
 told_beyond : (b : List ℕ) (x x' : Lists) (w : Walked) → Told b x x' w → Beyond (counts_in (step_of w).report) x x'
-told_beyond b x x' (walked.Message a e (report.Accepted c)) h = h
-told_beyond b x x' (walked.Message a e (report.Refused f)) h = same_beyond _ x x' h.1
-told_beyond b x x' walked.Nothing h = same_beyond _ x x' h
-told_beyond b x x' (walked.Refused f) h = same_beyond _ x x' h.1
+told_beyond b x x' (Ok (Some m)) h = message_beyond b x x' m.start m.end m.report h
+told_beyond b x x' (Ok None) h = same_beyond _ x x' h
+told_beyond b x x' (Err f) h = same_beyond _ x x' h.1
 
 walk_on : (b : List ℕ) (at : ℕ) (x x' : Lists) (y : StepNumbers) → Stepped b at x x' y → Beyond (counts_in y.report) x x'
 walk_on b at x x' y (stepped w l e) = subst (λ (k : StepNumbers). Beyond (counts_in k.report) x x') (sym e) (told_beyond b x x' w (walk_told b at x x' w l))
 
 room_on : (s o : List ℕ) (w : Rewriting) → rewriting_of s (length o) ≡ w → drop (rewriting_numbers w).length (room_after s o) ≡ drop (rewriting_numbers w).length o
-room_on s o (rewriting.Written n) e = rewrites_beyond s o n e
-room_on s o (rewriting.Refused f) e = ap (drop 0) (rewrites s o f e).1
+room_on s o (Ok n) e = rewrites_beyond s o n e
+room_on s o (Err f) e = ap (drop 0) (rewrites s o f e).1
 
 rewrite_on : (b o o' : List ℕ) (y : RewritingNumbers) → Rewritten b y o o' → drop y.length o' ≡ drop y.length o
 rewrite_on b o o' y w =
@@ -508,6 +558,7 @@ pub refusals : Refusals
 refusals = record {
   opening = opens;
   closing = λ s c w. closed_by_lem s w;
+  closing_refused = shuts;
   checking = checks;
   check_beyond = beyond;
   judging = judges_told;

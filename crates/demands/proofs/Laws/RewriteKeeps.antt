@@ -4,7 +4,7 @@ use Rattle.std.proofs.Common.{arith, ap₂, length-drop, length-take}
 use Rattle.service.specs.declared.Service.{Service}
 use Rattle.service.specs.Service.{plain_service, Fits}
 use Rattle.service.specs.Laws.FitLaws.{plain_fits, characters_fit}
-use Rattle.interchange.specs.declared.Opening.TheVariants.{Opens}
+use Rattle.interchange.specs.Answers.{Opens}
 use Rattle.interchange.specs.Messages.{Extent, starts_at, ends_at, bytes_of}
 use Rattle.interchange.specs.Forms.Answers.{opening_of}
 use Rattle.interchange.specs.Laws.OpenedLaws.{opened}

@@ -2,13 +2,19 @@
 use Rattle.std.specs.Prelude.{ℕ, ◌+◌, ◌≤◌, ◌<◌, ◌≡◌, refl, List, [], ◌∷◌, ◌++◌, length}
 use Rattle.std.proofs.Common.{arith, sym, ◌∙◌, ap, ap₂, subst, lt-ltb, le-ltb}
 use Rattle.std.proofs.Math.Decide.{dec_lt}
+use Rattle.numbers.specs.declared.Number.TheVariants as numbers
 use Rattle.service.specs.declared.Service.{Service}
-use Rattle.segments.specs.SegmentList.{Piece, finished, segments_after}
+use Rattle.service.specs.Laws.ServiceLaws.{same_fit}
+use Rattle.segments.specs.declared.Piece.{Piece}
+use Rattle.segments.specs.declared.Piece.TheVariants.{Finished as finished}
+use Rattle.segments.specs.SegmentList.{segments_after}
 use Rattle.segments.specs.Laws.ListLaws.{segments_after_lem}
 use Rattle.segments.specs.Laws.ClearLaws.{passed, upto_start}
-use Rattle.interchange.specs.declared.Found.TheVariants as found
-use Rattle.interchange.specs.declared.Opening.TheVariants.{Opens}
-use Rattle.interchange.specs.Messages.{Kind, head, trailer, last, other, cut, kind_of, Extent, starts_at, ends_at, bytes_of, extent_of, messages_by, messages_of, found_from}
+use Rattle.interchange.specs.Finds as found
+use Rattle.interchange.specs.Answers.{Opens}
+use Rattle.interchange.specs.Messages.{kind_of, Extent, starts_at, ends_at, bytes_of, extent_of, messages_by, messages_of, found_from}
+use Rattle.interchange.specs.declared.Kind.{Kind}
+use Rattle.interchange.specs.declared.Kind.TheVariants.{Head as head, Trailer as trailer, Last as last, Other as other, Cut as cut}
 use Rattle.interchange.specs.Envelope.{refusal, body_of}
 use Rattle.interchange.specs.Forms.Answers.{opening_of}
 use Rattle.interchange.specs.Laws.OpenedLaws.{opened}
@@ -23,12 +29,14 @@ use Rattle.interchange.specs.Laws.OwnLaws.{message_holds}
 use Rattle.damage.specs.Damage.{Mark, hit, Beside, Stays}
 use Rattle.damage.specs.Damage as damage
 use Rattle.lent.specs.Lists.{Lists}
-use Rattle.report.specs.declared.Report.{Report}
+use Rattle.report.specs.Answers.{Report}
 use Rattle.report.specs.Reported.{Reported}
 use Rattle.report.specs.Laws.ReportedLaws.{one_report}
-use Rattle.walk.specs.declared.Walked.{Walked}
-use Rattle.walk.specs.declared.Walked.TheVariants as walked
-use Rattle.walk.specs.Frame.{message, nothing, refused, step_by, step_at, step_with, step_from}
+use Rattle.walk.specs.Steps.{Walked}
+use Rattle.walk.specs.Steps as walked
+use Rattle.walk.specs.Frame.{message, nothing, refused, step_at, step_with, step_from}
+use Rattle.walk.specs.Laws.FrameLaws.{one_start, one_end}
+use Rattle.walk.specs.Laws.PlaceLaws.{walked_start, walked_end, walked_report}
 use Rattle.walk.specs.Walks.{between, Walks}
 use Rattle.walk.specs.Walks as stepping
 use Rattle.demands.specs.Runs.{Visit, Run, done, next, Steps, Owned, Told, Over, none, also}
@@ -66,31 +74,31 @@ module _ (s : List ℕ) (v : Service) (first : ℕ) (o : opening_of s ≡ Opens 
   unfolding step_from
   step_is at = let f = opened s v first o in rw (le-ltb _ _ f.short) (ap (step_with s at) f.named)
 
-  step_in : (at : ℕ) → at ≤ length s → step_from s at ≡ step_by (found_from v s at)
+  step_in : (at : ℕ) → at ≤ length s → step_from s at ≡ found_from v s at
   unfolding step_at
   step_in at h = step_is at ∙ rw (le-ltb _ _ h)
 
-  step_out : (at : ℕ) → length s < at → step_from s at ≡ refused (refusal 8)
+  step_out : (at : ℕ) → length s < at → step_from s at ≡ refused (refusal numbers.Position)
   unfolding step_at
   step_out at h = step_is at ∙ rw (lt-ltb _ _ h)
 
   pub steps : {at : ℕ} {ms : List Extent} → at ≤ length s → Inside (length s) ms → Visits v s at ms → Steps s at ms
-  steps h w (walk.done at e) = done at (step_in at h ∙ ap step_by e)
-  steps h (cons _ _ a b w) (walk.step at m ms e r) = next at m ms (step_in at h ∙ ap step_by e) (steps b w r)
+  steps h w (walk.done at e) = done at (step_in at h ∙ e)
+  steps h (cons _ _ a b w) (walk.step at m ms e r) = next at m ms (step_in at h ∙ e) (steps b w r)
 
   pub owned : {ms : List Extent} → Inside (length s) ms → Own v s ms → Owned s ms
   owned w walk.none = none
-  owned (cons _ _ a b w) (walk.also m ms e r) = also m ms (step_in (starts_at m) a ∙ ap step_by e) (owned w r)
+  owned (cons _ _ a b w) (walk.also m ms e r) = also m ms (step_in (starts_at m) a ∙ e) (owned w r)
 
   -- ---- what the calls give
   pub step_message : {at : ℕ} {k k' : Lists} {y : Walked} → Walks s at k k' y → (a e : ℕ) (x : Report) → y ≡ walked.Message a e x
       → (step_from s at ≡ message a e) × Reported v (between s a e) k k' x
   step_message (stepping.walks_message v' una b c z n p q) a e x f =
-      let i : b ≡ a = cc in
-      let j : c ≡ e = cc in
-      let l : z ≡ x = cc in
-      let g = (opened s v first o).named in
-      let u : v' ≡ v = cc in
+      let i = walked_start b c z a e x f in
+      let j = walked_end b c z a e x f in
+      let l = walked_report b c z a e x f in
+      let g = opened s v first o in
+      let u = (same_fit v' v una g.una (sym n ∙ g.named)).0 in
       (sym p ∙ ap₂ message i j, rw (← u, ← i, ← j, ← l) q)
   step_message (stepping.walks_nothing p q) a e x f = absurd (let z : ◌≡◌ {A = ℕ} 0 1 = cc in omega arith)
   step_message (stepping.walks_refused c p q) a e x f = absurd (let z : ◌≡◌ {A = ℕ} 0 1 = cc in omega arith)
@@ -108,8 +116,8 @@ module _ (s : List ℕ) (v : Service) (first : ℕ) (o : opening_of s ≡ Opens 
       go (yes h) = absurd (let w = step_out at h in let z : ◌≡◌ {A = ℕ} 0 1 = cc in omega arith)
       go (no g) =
           let h : at ≤ length s = omega arith in
-          let w : message a e ≡ message b c = sym p ∙ step_in at h ∙ ap step_by q in
-          (cc, cc)
+          let w : message a e ≡ message b c = sym p ∙ step_in at h ∙ q in
+          (one_start a e b c w, one_end a e b c w)
 
   found_none : (at a e : ℕ) → step_from s at ≡ message a e → found_from v s at ≡ found.Nothing → ⊥
   found_none at a e p q = go (dec_lt (length s) at)
@@ -118,7 +126,7 @@ module _ (s : List ℕ) (v : Service) (first : ℕ) (o : opening_of s ≡ Opens 
       go (yes h) = let w = step_out at h in let z : ◌≡◌ {A = ℕ} 0 1 = cc in omega arith
       go (no g) =
           let h : at ≤ length s = omega arith in
-          let w : message a e ≡ nothing = sym p ∙ step_in at h ∙ ap step_by q in
+          let w : message a e ≡ nothing = sym p ∙ step_in at h ∙ q in
           let z : ◌≡◌ {A = ℕ} 0 1 = cc in omega arith
 
   none_found : (at b c : ℕ) → step_from s at ≡ nothing → found_from v s at ≡ found.Message b c → ⊥
@@ -128,7 +136,7 @@ module _ (s : List ℕ) (v : Service) (first : ℕ) (o : opening_of s ≡ Opens 
       go (yes h) = let w = step_out at h in let z : ◌≡◌ {A = ℕ} 0 1 = cc in omega arith
       go (no g) =
           let h : at ≤ length s = omega arith in
-          let w : nothing ≡ message b c = sym p ∙ step_in at h ∙ ap step_by q in
+          let w : nothing ≡ message b c = sym p ∙ step_in at h ∙ q in
           let z : ◌≡◌ {A = ℕ} 0 1 = cc in omega arith
 
   -- calls one after the other tell of exactly the messages that are found

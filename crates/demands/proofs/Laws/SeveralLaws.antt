@@ -1,15 +1,14 @@
 -- What W-203 says of the call for several positions. Assumes nothing.
-use Rattle.std.specs.Prelude.{ℕ, zero, suc, ◌≤◌, ◌<◌, ◌≡◌, refl, List, [], ◌∷◌, length, get_or, drop}
+use Rattle.std.specs.Prelude.{ℕ, zero, suc, ◌≤◌, ◌<◌, ◌≡◌, refl, List, [], ◌∷◌, length, get_or, drop, None, Some, Ok, Err}
 use Rattle.std.proofs.Common.{arith, sym, ap, ◌∙◌, true≢false, le-ltb, lt-ltb}
+use Rattle.numbers.specs.declared.Number.TheVariants as numbers
 use Rattle.service.specs.declared.Service.{Service}
-use Rattle.service.specs.declared.Characters.TheVariants.{Fit}
-use Rattle.service.specs.Service.{among, characters_of}
+use Rattle.service.specs.Service.{Fit, among, characters_of}
 use Rattle.interchange.specs.Envelope.{refusal}
 use Rattle.lent.specs.Lists.{Lists, lists}
-use Rattle.report.specs.declared.Report.{Report}
-use Rattle.report.specs.declared.Report.TheVariants as report
-use Rattle.walk.specs.declared.Walked.{Walked}
-use Rattle.walk.specs.declared.Walked.TheVariants as walked
+use Rattle.report.specs.Answers.{Report}
+use Rattle.walk.specs.Steps.{Walked}
+use Rattle.walk.specs.Steps as walked
 use Rattle.walk.specs.Frame.{refused, step_at, step_with, step_from}
 use Rattle.walk.specs.Walks.{between, walks_refused, Judges, judges}
 use Rattle.walk.specs.Laws.WalksLaws.{other'}
@@ -63,8 +62,8 @@ answer_walked b at y h = let k = walked_by b at (numbers_of y) h in (k.0, k.1, n
 -- 14 is neither the walk's nor a message's
 not_walked : (b : List ℕ) (at : ℕ) (w : Walked) → JudgesAs b at w → (step_of w).report.number ≡ 14 → ⊥
 unfolding among
-not_walked b at w (as_message v una a e (report.Accepted c) n p j) q = omega arith
-not_walked b at w (as_message v una a e (report.Refused f) n p j) q = not_fourteen v (between b a e) f j q
+not_walked b at w (as_message v una a e (Ok c) n p j) q = omega arith
+not_walked b at w (as_message v una a e (Err f) n p j) q = not_fourteen v (between b a e) f j q
 not_walked b at w (as_nothing p) q = omega arith
 not_walked b at w (as_refused f p) q =
     let k = (refusals.walking b at (lists [] [] []) (lists [] [] []) f (walks_refused f p refl)).0.number in
@@ -76,25 +75,25 @@ not_short b at y h q =
     not_walked b at k.0 (judges_as b at k.0 k.1) (sym (ap (λ (z : StepNumbers). z.report.number) k.2) ∙ q)
 
 -- a position past the end
-past_step : (b : List ℕ) (at : ℕ) (v : Service) (una : ℕ) → length b ≤ 1048576 → characters_of b ≡ Fit v una → length b < at → step_from b at ≡ refused (refusal 8)
+past_step : (b : List ℕ) (at : ℕ) (v : Service) (una : ℕ) → length b ≤ 1048576 → characters_of b ≡ Fit v una → length b < at → step_from b at ≡ refused (refusal numbers.Position)
 unfolding step_from step_at
 past_step b at v una l c h = rw (le-ltb 1048576 (length b) l) (ap (step_with b at) c ∙ rw (lt-ltb (length b) at h))
 
 past : (b : List ℕ) (at : ℕ) (v : Service) (una : ℕ) (r : List ℕ) → length b ≤ 1048576 → characters_of b ≡ Fit v una → length b < at → Answered b at r → r ≡ 0 ∷ 0 ∷ 0 ∷ 8 ∷ 0 ∷ 0 ∷ 0 ∷ 0 ∷ 0 ∷ []
 past b at v una r l c h k =
     let e = sym (past_step b at v una l c h) in
-    let w : Walked = walked.Refused (refusal 8) in
-    let j : Judges b at w = judges (lists [] [] []) (lists [] [] []) (λ u i a d n q. absurd (other' a d (refusal 8) (q ∙ sym e))) (walks_refused (refusal 8) e refl) in
+    let w : Walked = walked.Refused (refusal numbers.Position) in
+    let j : Judges b at w = judges (lists [] [] []) (lists [] [] []) (λ u i a d n q. absurd (other' a d (refusal numbers.Position) (q ∙ sym e))) (walks_refused (refusal numbers.Position) e refl) in
     one_answered b at r (numbers_of (step_of w)) k (answer_by b at w j (step_of w) refl (numbers_of (step_of w)) refl)
 
 -- ---- demand 3
 found_by_lem : (b : List ℕ) (at : ℕ) (w : Walked) → Judges b at w → (y : StepNumbers) → y ≡ step_of w → y.found ≡ 1 → (r : Report) × Judges b at (walked.Message y.start y.end r) × (y.report ≡ report_of r)
-found_by_lem b at (walked.Message a e r) j y q f =
-    let i : y.start ≡ a = ap (λ (z : StepNumbers). z.start) q in
-    let k : y.end ≡ e = ap (λ (z : StepNumbers). z.end) q in
-    (r, rw (i, k) j, ap (λ (z : StepNumbers). z.report) q)
-found_by_lem b at walked.Nothing j y q f = absurd (let z = ap (λ (z : StepNumbers). z.found) q in omega arith)
-found_by_lem b at (walked.Refused g) j y q f = absurd (let z = ap (λ (z : StepNumbers). z.found) q in omega arith)
+found_by_lem b at (Ok (Some m)) j y q f =
+    let i : y.start ≡ m.start = ap (λ (z : StepNumbers). z.start) q in
+    let k : y.end ≡ m.end = ap (λ (z : StepNumbers). z.end) q in
+    (m.report, rw (i, k) j, ap (λ (z : StepNumbers). z.report) q)
+found_by_lem b at (Ok None) j y q f = absurd (let z = ap (λ (z : StepNumbers). z.found) q in omega arith)
+found_by_lem b at (Err g) j y q f = absurd (let z = ap (λ (z : StepNumbers). z.found) q in omega arith)
 
 own_bytes : (b b' : List ℕ) (at at' : ℕ) (v : Service) (una una' : ℕ) (y y' : StepNumbers) → characters_of b ≡ Fit v una → characters_of b' ≡ Fit v una' → y.found ≡ 1 → y'.found ≡ 1
     → between b y.start y.end ≡ between b' y'.start y'.end → Answered b at (numbers_of y) → Answered b' at' (numbers_of y') → y.report ≡ y'.report

@@ -1,6 +1,7 @@
 -- Messages whose segments have the same values are told the same, offsets aside. Assumes nothing.
 use Rattle.std.specs.Prelude.{ℕ, ◌≤◌, ◌≡◌, refl, List, true, length}
 use Rattle.std.proofs.Common.{sym, ◌∙◌, ap, subst}
+use Rattle.numbers.specs.Table.{table_number}
 use Rattle.service.specs.declared.Service.{Service}
 use Rattle.service.specs.Service.{Fits}
 use Rattle.segments.specs.SegmentList.{segments_from}
@@ -14,8 +15,7 @@ use Rattle.kinds.specs.declared.Kind.{Kind}
 use Rattle.message.specs.Segs.{Seg, segs_of}
 use Rattle.message.specs.Kinds.{chart_for, rules_for, totals_for}
 use Rattle.message.specs.Faults.{told, tell_all}
-use Rattle.report.specs.declared.Report.{Report}
-use Rattle.report.specs.declared.Report.TheVariants.{Accepted, Refused}
+use Rattle.report.specs.Answers.{Report, Accepted, Refused}
 use Rattle.report.specs.Reported.{Bare, bare_of, Room, early, In, is_kind, Of, Applies, soon, misfit, late, Lowest, offset_of, counts_of, room_of, filled, Reported, accepted, refused}
 use Rattle.report.specs.Laws.ReportedLaws.{one_report}
 use Rattle.demands.specs.Verdicts.{verdict_of}
@@ -67,6 +67,6 @@ module _ (v : Service) (m : List ℕ) (v' : Service) (m' : List ℕ) (f : Fits v
       ∙ ap (verdicts.accepted d (over rows x.rows)) u
       ∙ ap verdict_of (one_report v' m' x (filled k v' m' rows x) x2 (Accepted d) y' i z)
   same_verdict x x1 x2 y y' (refused g l o p) z =
-      let g' : Refusal = record { number = g.number; segment = g.segment; offset = offset_of v' m' g.number g.segment } in
-      let i : Reported v' m' x x1 (Refused g') = refused g' (same_lowest (room_of x) g.number g.segment l) refl p in
+      let g' : Refusal = record { number = g.number; segment = g.segment; offset = offset_of v' m' (table_number g.number) g.segment } in
+      let i : Reported v' m' x x1 (Refused g') = refused g' (same_lowest (room_of x) (table_number g.number) g.segment l) refl p in
       ap verdict_of (one_report v' m' x x1 x2 (Refused g') y' i z)

@@ -12,7 +12,7 @@ use Rattle.parts.specs.Parts.{lex, elements, value_at, value_of}
 use Rattle.values.specs.Text.{text, same_list}
 use Rattle.values.specs.Forms.Values.{digits, one_more, units, fraction}
 use Rattle.interchange.specs.declared.Refusal.{Refusal}
-use Rattle.interchange.specs.declared.Opening.TheVariants.{Opens}
+use Rattle.interchange.specs.Answers.{Opens}
 use Rattle.interchange.specs.Messages.{Extent, closed, bytes_of, tag_at, extent_of, messages_of}
 use Rattle.interchange.specs.Envelope.{is_reference, is_header, first_at, body_of}
 use Rattle.interchange.specs.Forms.Answers.{opened_by, opening_of}
@@ -27,8 +27,7 @@ use Rattle.message.specs.Kinds.{chart_for}
 use Rattle.message.specs.Segs.{segs_from, segs_of, those}
 use Rattle.message.specs.Rules.{totals_of}
 use Rattle.report.specs.declared.Counts.{Counts}
-use Rattle.report.specs.declared.Report.{Report}
-use Rattle.report.specs.declared.Report.TheVariants.{Accepted, Refused}
+use Rattle.report.specs.Answers.{Report, Accepted, Refused}
 use Rattle.report.specs.Reported.{Room, Of, Applies, room_of, counts_of, filled, Reported, accepted, refused}
 use Rattle.report.specs.Laws.KindLaws.{one_kind}
 use Rattle.chart.proofs.Theorems.{one_reading}

@@ -1,12 +1,10 @@
 -- What the run of details comes to: the first fault under 28. Assumes nothing.
-use Rattle.std.specs.Prelude.{ℕ, ◌≡◌, refl, List, [], ◌∷◌, Bool, true, false, not, ◌||◌}
+use Rattle.std.specs.Prelude.{ℕ, ◌≡◌, refl, List, [], ◌∷◌, Bool, true, false, not, ◌||◌, Option, None, Some}
 use Rattle.std.proofs.Common.{sym, ap, ◌∙◌}
 use Rattle.service.specs.Tests.{if}
 use Rattle.values.specs.Text.{text}
 use Rattle.values.specs.Forms.Values.{code_from, code_of}
 use Rattle.values.specs.Laws.TextLaws.{says_code}
-use Rattle.faults.specs.declared.First.{First}
-use Rattle.faults.specs.declared.First.TheVariants as first
 use Rattle.message.specs.Segs.{Seg, LIN, SEQ, PRC10, PRC16, FTX16, DOC17, is, those}
 use Rattle.message.specs.Rules.{some, failing, details_hold, fault28_b, fault28_c, rule28}
 use Rattle.message.specs.Forms.Run.{run, first_of, test_step, level_step}
@@ -17,16 +15,26 @@ use Rattle.message.proofs.Laws.CountLaws.{some_came}
 use Rattle.details.specs.declared.Details.{Details}
 use Rattle.details.specs.Forms.Steps.{common_of, group_of, common_inner, group_inner, common_comes, group_holds, group_comes, level28_b, level28_c, details_of, order_part, group_part, details_start, details_step, details_close}
 
--- each part runs by itself
-common_run : (u c : Bool) (f : First) (ss : List Seg) → run common_inner (common_of u c f) ss ≡ common_of u (run (some_step (is PRC10)) c ss) (run (test_step (is PRC16) (λ s. false)) f ss)
+-- each part runs by itself, and where there is no level nothing comes
+common_run : (c : Bool) (f : Option ℕ) (ss : List Seg) → run common_inner (Some (common_of c f)) ss ≡ Some (common_of (run (some_step (is PRC10)) c ss) (run (test_step (is PRC16) (λ s. false)) f ss))
 unfolding run common_inner
-common_run u c f [] = refl
-common_run u c f (s ∷ ss) = common_run u (some_step (is PRC10) c s) (test_step (is PRC16) (λ s. false) f s) ss
+common_run c f [] = refl
+common_run c f (s ∷ ss) = common_run (some_step (is PRC10) c s) (test_step (is PRC16) (λ s. false) f s) ss
 
-group_run : (f : First) (x : ℕ) (t d : Bool) (ss : List Seg) → run group_inner (group_of f x t d) ss ≡ group_of f x (run (some_step (is FTX16)) t ss) (run (some_step (is DOC17)) d ss)
+common_none : (ss : List Seg) → run common_inner None ss ≡ None
+unfolding run common_inner
+common_none [] = refl
+common_none (s ∷ ss) = common_none ss
+
+group_run : (n x : ℕ) (t d : Bool) (ss : List Seg) → run group_inner (Some (group_of n x t d)) ss ≡ Some (group_of n x (run (some_step (is FTX16)) t ss) (run (some_step (is DOC17)) d ss))
 unfolding run group_inner
-group_run f x t d [] = refl
-group_run f x t d (s ∷ ss) = group_run f x (some_step (is FTX16) t s) (some_step (is DOC17) d s) ss
+group_run n x t d [] = refl
+group_run n x t d (s ∷ ss) = group_run n x (some_step (is FTX16) t s) (some_step (is DOC17) d s) ss
+
+group_none : (ss : List Seg) → run group_inner None ss ≡ None
+unfolding run group_inner
+group_none [] = refl
+group_none (s ∷ ss) = group_none ss
 
 -- all segments, or none
 passing : (ss : List Seg) → failing (λ s. true) ss ≡ []
@@ -34,7 +42,7 @@ unfolding failing
 passing [] = refl
 passing (s ∷ ss) = passing ss
 
-all_or_none : (b : Bool) (ss : List Seg) → first_of (failing (λ s. not b) ss) ≡ if b (first_of (failing (λ s. false) ss)) first.None
+all_or_none : (b : Bool) (ss : List Seg) → first_of (failing (λ s. not b) ss) ≡ if b (first_of (failing (λ s. false) ss)) None
 unfolding first_of
 all_or_none true ss = refl
 all_or_none false ss = ap first_of (passing ss)
@@ -43,7 +51,7 @@ tells28_b : Tells level28_b fault28_b
 unfolding common_comes
 tells28_b = record {
   sound = λ s ss. all_or_none (some (is PRC10) ss) (those (is PRC16) ss) ∙ sym (goes_late level28_b (λ o s. refl) (level28_b.start s) ss ∙ rw (common_run, some_came (is PRC10), test_tells (is PRC16) (λ s. false)));
-  quiet = λ ss. goes_late level28_b (λ o s. refl) level28_b.idle ss ∙ rw common_run;
+  quiet = λ ss. goes_late level28_b (λ o s. refl) level28_b.idle ss ∙ rw (common_none ss);
   ended = λ s e. e;
 }
 
@@ -60,7 +68,7 @@ tells28_c : Tells level28_c fault28_c
 unfolding group_comes
 tells28_c = record {
   sound = λ s ss. rw (first_unless, by_code, goes_late level28_c (λ g s. refl) (level28_c.start s) ss, group_run, some_came (is FTX16), some_came (is DOC17));
-  quiet = λ ss. goes_late level28_c (λ g s. refl) level28_c.idle ss ∙ rw group_run;
+  quiet = λ ss. goes_late level28_c (λ g s. refl) level28_c.idle ss ∙ rw (group_none ss);
   ended = λ s e. neither (is LIN s) (is SEQ s) (is PRC16 s) e;
 }
 

@@ -1,13 +1,11 @@
-use Rattle.segments.specs.Laws.SegmentsLaws.{less_segment}
-use Rattle.interchange.specs.Laws.OpenLaws.{unz_done, unz_cut, unz_on}
-use Rattle.std.proofs.Common.{rules}
+-- The last segment that the reader gives is the last of the list.
+use Rattle.std.proofs.Common.{◌∙◌, sym, Some, None}
+use Rattle.interchange.specs.Laws.NearLaws.{last_given}
 use Rattle.interchange.proofs.ends_with_unz.Goals as goal
 
-pub loop-next-preserved : goal.loop-next-preserved
-loop-next-preserved c = search (less_segment, unz_done, unz_cut, unz_on, rules)
+pub returns-in-Some : goal.returns-in-Some
+returns-in-Some c =
+    c.is_unz.ensures ∙ last_given _ _ _ _ c.segments.ensures.left (Some _) c.in-Some.ensures.ran ∙ sym c.near_end.ensures
 
-pub returns-in-Unfinished : goal.returns-in-Unfinished
-returns-in-Unfinished c = search (less_segment, unz_done, unz_cut, unz_on, rules)
-
-pub returns-in-Nothing : goal.returns-in-Nothing
-returns-in-Nothing c = search (less_segment, unz_done, unz_cut, unz_on, rules)
+pub returns-in-None : goal.returns-in-None
+returns-in-None c = last_given _ _ _ _ c.segments.ensures.left None c.in-None.ensures.ran ∙ sym c.near_end.ensures

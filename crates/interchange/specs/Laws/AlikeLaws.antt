@@ -7,9 +7,14 @@ use Rattle.std.proofs.Math.Bool.{false}
 use Rattle.std.proofs.Math.ListN.{length}
 use Rattle.std.proofs.Math.Seq.{drop-length}
 use Rattle.std.proofs.Math.Dec.{T}
+use Rattle.numbers.specs.declared.Number.TheVariants as numbers
+use Rattle.std.specs.Prelude.{Some}
+use Rattle.std.specs.Prelude.{None}
 use Rattle.service.specs.declared.Service.{Service}
 use Rattle.service.specs.Tests.{if, is_empty, last_of}
-use Rattle.segments.specs.SegmentList.{Piece, finished, unfinished, all_finished}
+use Rattle.segments.specs.declared.Piece.{Piece}
+use Rattle.segments.specs.declared.Piece.TheVariants.{Finished as finished, Unfinished as unfinished}
+use Rattle.segments.specs.SegmentList.{all_finished}
 use Rattle.parts.specs.Parts.{lex, elements}
 use Rattle.parts.proofs.Laws.ValueLaws.{tag_value}
 use Rattle.parts.specs.Trimmed.{trimmed, values_at, values_in}
@@ -17,9 +22,11 @@ use Rattle.parts.proofs.Laws.TrimLaws.{same_at}
 use Rattle.values.specs.Text.{same_list, says}
 use Rattle.values.specs.Numbers.{value_from, value_in}
 use Rattle.values.specs.Forms.Values.{number_of, is_number}
-use Rattle.interchange.specs.Messages.{tag_at, Kind, head, trailer, last, other, cut, kind_by, kind_of, Extent, extent_of, messages_by, messages_of, stays, stray_by, strays_of}
+use Rattle.interchange.specs.Messages.{tag_at, kind_by, kind_of, Extent, extent_of, messages_by, messages_of, stays, stray_by, strays_of}
+use Rattle.interchange.specs.declared.Kind.{Kind}
+use Rattle.interchange.specs.declared.Kind.TheVariants.{Head as head, Trailer as trailer, Last as last, Other as other, Cut as cut}
 use Rattle.interchange.specs.Envelope.{is_reference, is_header, headed, last_unz, last_start}
-use Rattle.interchange.specs.Forms.Answers.{closing_number}
+use Rattle.interchange.specs.Forms.Answers.{closing_fault}
 use Rattle.interchange.specs.Alike.{Alike, none, both}
 
 module _ (v : Service) (s : List ℕ) (v' : Service) (s' : List ℕ) where
@@ -113,8 +120,8 @@ module _ (v : Service) (s : List ℕ) (v' : Service) (s' : List ℕ) where
   unfolding lex
   same_end = ap (λ (x : List ℕ). trimmed (elements (lex v false x))) (drop-length s) ∙ sym (ap (λ (x : List ℕ). trimmed (elements (lex v' false x))) (drop-length s'))
 
-  pub same_number : (i i' j j' m n : ℕ) → values_at v s i ≡ values_at v' s' i' → values_at v s j ≡ values_at v' s' j' → closing_number v s i j m n ≡ closing_number v' s' i' j' m n
-  unfolding closing_number
+  pub same_number : (i i' j j' m n : ℕ) → values_at v s i ≡ values_at v' s' i' → values_at v s j ≡ values_at v' s' j' → closing_fault v s i j m n ≡ closing_fault v' s' i' j' m n
+  unfolding closing_fault
   same_number i i' j j' m n p q =
-      ap₂ (λ (x : List ℕ) (y : Bool). if (is_number (number_of x) m) (if y (if (eqb n 0) 0 7) 6) 5) (same_value j j' q 1 0)
+      ap₂ (λ (x : List ℕ) (y : Bool). if (is_number (number_of x) m) (if y (if (eqb n 0) None (Some numbers.Strays)) (Some numbers.Reference)) (Some numbers.Count)) (same_value j j' q 1 0)
       (ap₂ same_list (same_value i i' p 5 0) (same_value j j' q 2 0))

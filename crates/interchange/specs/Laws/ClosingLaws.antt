@@ -4,6 +4,14 @@ use native.Mathlib.Omega.{arith}
 use Rattle.std.proofs.Math.Path.{refl}
 use Rattle.std.proofs.Common.{sym, ◌∙◌, ap, subst, eqb-true}
 use Rattle.std.proofs.lemmas.Bool.{eqb-false}
+use Rattle.numbers.specs.declared.Number.{Number}
+use Rattle.numbers.specs.Table.{number_told, table_number}
+use Rattle.numbers.specs.Laws.TableLaws.{told_one}
+use Rattle.interchange.specs.Laws.OpenedLaws.{one_case}
+use Rattle.numbers.specs.declared.Number.TheVariants as numbers
+use Rattle.std.specs.Prelude.{Option}
+use Rattle.std.specs.Prelude.{Some}
+use Rattle.std.specs.Prelude.{None}
 use Rattle.service.specs.declared.Service.{Service}
 use Rattle.service.specs.Tests.{if}
 use Rattle.values.specs.Text.{same_list}
@@ -11,12 +19,12 @@ use Rattle.values.specs.Numbers.{NumberIs, value_in}
 use Rattle.values.specs.Forms.Values.{number_of, is_number}
 use Rattle.values.specs.Laws.NumberLaws.{number_is_true, true_number_is}
 use Rattle.values.specs.Laws.TextLaws.{same_eq, eq_same}
-use Rattle.interchange.specs.declared.Opening.{Opening}
-use Rattle.interchange.specs.declared.Closing.{Closing}
+use Rattle.interchange.specs.Answers.{Opening}
+use Rattle.interchange.specs.Answers.{Closing}
 use Rattle.interchange.specs.Envelope.{message_count, stray_count, unz_at, closing_with, closing_without}
 use Rattle.interchange.specs.Opened.{OpenFault, Opened, OpenedAs, accepted, refused}
 use Rattle.interchange.specs.Closed.{CloseFault, count, reference, stray, LeastOrNone, least, none, ClosedAs, unopened, closes}
-use Rattle.interchange.specs.Forms.Answers.{opening_of, closing_number, closed_by, closing_by, closing_of}
+use Rattle.interchange.specs.Forms.Answers.{opening_of, closing_fault, closed_by, closing_by, closing_of}
 use Rattle.interchange.specs.Laws.OpenedLaws.{no_fault, is_opening, one_least, one_opened}
 use Rattle.interchange.specs.Laws.WithinLaws.{few_counted}
 
@@ -45,7 +53,7 @@ module _ (v : Service) (s : List ℕ) (first : ℕ) where
       none_left z k (stray w e) = w z
 
   by_tests : message_count v s first < 10000000000000000000 → (a b c : Bool) → is_number (number_of (value_in v (unz_at v s first) s 1 0)) (message_count v s first) ≡ a
-      → same_list (value_in v first s 5 0) (value_in v (unz_at v s first) s 2 0) ≡ b → eqb (stray_count v s first) 0 ≡ c → LeastOrNone (CloseFault v s first) (if a (if b (if c 0 7) 6) 5)
+      → same_list (value_in v first s 5 0) (value_in v (unz_at v s first) s 2 0) ≡ b → eqb (stray_count v s first) 0 ≡ c → LeastOrNone (CloseFault v s first) (number_told (if a (if b (if c None (Some numbers.Strays)) (Some numbers.Reference)) (Some numbers.Count)))
   by_tests h true true true p q r =
       none (none_left (number_is_true (value_in v (unz_at v s first) s 1 0) (message_count v s first) p) (sym (same_eq (value_in v first s 5 0) (value_in v (unz_at v s first) s 2 0) q)) (eqb-true (stray_count v s first) 0 r)) refl
   by_tests h true true false p q r =
@@ -65,7 +73,7 @@ module _ (v : Service) (s : List ℕ) (first : ℕ) where
       })
 
   closed_by_lem : Opened s v first → ClosedAs s (closed_by v s first)
-  unfolding closed_by closing_number
+  unfolding closed_by closing_fault
   closed_by_lem o =
       let m = few_counted s v first o in
       let h : message_count v s first < 10000000000000000000 = omega arith in
@@ -90,16 +98,16 @@ one_number p n m (least x) (none f e) = absurd (f n x.one)
 one_number p n m (none f e) (least y) = absurd (f m y.one)
 one_number p n m (none f e) (none g d) = e ∙ sym d
 
-one_with : (s : List ℕ) (n m : ℕ) (v : Service) (first : ℕ) (w : Service) (f : ℕ) → v ≡ w → first ≡ f → LeastOrNone (CloseFault v s first) n → LeastOrNone (CloseFault w s f) m
+one_with : (s : List ℕ) (n m : Option Number) (v : Service) (first : ℕ) (w : Service) (f : ℕ) → v ≡ w → first ≡ f → LeastOrNone (CloseFault v s first) (number_told n) → LeastOrNone (CloseFault w s f) (number_told m)
     → closing_with n v s first ≡ closing_with m w s f
 one_with s n m v first w f p q x y =
-    let z : LeastOrNone (CloseFault w s f) n = subst (λ (u : Service). LeastOrNone (CloseFault u s f) n) p (subst (λ (i : ℕ). LeastOrNone (CloseFault v s i) n) q x) in
-    rw (p, q, one_number (CloseFault w s f) n m z y)
+    let z : LeastOrNone (CloseFault w s f) (number_told n) = subst (λ (u : Service). LeastOrNone (CloseFault u s f) (number_told n)) p (subst (λ (i : ℕ). LeastOrNone (CloseFault v s i) (number_told n)) q x) in
+    rw (p, q, told_one n m (one_number (CloseFault w s f) (number_told n) (number_told m) z y))
 
 pub one_closing : (s : List ℕ) {a b : Closing} → ClosedAs s a → ClosedAs s b → a ≡ b
-one_closing s (unopened n x) (unopened m y) = ap closing_without (one_least (OpenFault s) n m x y)
-one_closing s (unopened n x) (closes v first m o y) = absurd (no_fault s v first o n x.one)
-one_closing s (closes v first n o x) (unopened m y) = absurd (no_fault s v first o m y.one)
+one_closing s (unopened n x) (unopened m y) = ap closing_without (one_case (OpenFault s) n m x y)
+one_closing s (unopened n x) (closes v first m o y) = absurd (no_fault s v first o (table_number n) x.one)
+one_closing s (closes v first n o x) (unopened m y) = absurd (no_fault s v first o (table_number m) y.one)
 one_closing s (closes v first n o x) (closes w f m q y) = let e = one_opened s v first w f o q in one_with s n m v first w f e.0 e.1 x y
 
 pub closing_is : (s : List ℕ) (c : Closing) → ClosedAs s c → c ≡ closing_of s

@@ -1,61 +1,77 @@
--- The count of messages and strays meets the end UNZ exactly if the last segment is a finished UNZ. Each premise is a fact that a proof has at hand.
--- Assumes nothing.
-use Rattle.std.specs.Prelude.{ℕ, Bool, ◌&&◌, length, eqb, leb}
-use Rattle.std.proofs.Common.{arith, ◌∙◌}
-use Rattle.std.proofs.Math.Path.{◌≡◌, refl, sym, ap}
-use mathlib.Core.List.{List, [], ◌∷◌}
-use Rattle.std.proofs.Math.Bool.{true, false}
+-- The count of messages and strays meets the end UNZ exactly if the last segment is a finished UNZ. Assumes nothing.
+use Rattle.std.specs.Prelude.{ℕ, suc, ◌≡◌, refl, List, [], ◌∷◌, Bool, true, false, ◌&&◌, length, Option, Some, None}
+use Rattle.std.proofs.Common.{sym, ◌∙◌, ap}
 use Rattle.service.specs.declared.Service.{Service}
-use Rattle.segments.specs.declared.Segment.{Segment}
-use Rattle.segments.specs.declared.Segment.TheVariants as segment
-use Rattle.service.specs.Tests.{if, is_empty, last_of}
-use Rattle.segments.specs.Forms.Segments.{segment_at}
-use Rattle.segments.specs.SegmentList.{Piece, finished, unfinished, segments_from}
-use Rattle.segments.specs.Laws.ListLaws.{list_nothing, list_finished, list_unfinished}
+use Rattle.service.specs.Tests.{if, last_of}
+use Rattle.segments.specs.declared.Piece.{Piece}
+use Rattle.segments.specs.declared.Piece.TheVariants.{Finished as finished, Unfinished as unfinished}
+use Rattle.segments.specs.SegmentList.{Mode, gap, first as initial, inside, held, after, ends, start_in, emit, left, pieces, segments_from}
 use Rattle.values.specs.Text.{same_list, text, says}
 use Rattle.values.specs.Laws.TextLaws.{same_eq}
-use Rattle.interchange.specs.Messages.{tag_at}
-use Rattle.interchange.specs.Envelope.{is_header, headed, last_unz, ended, after_first, body_of}
-use Rattle.values.specs.Forms.Codes.{UNZ}
-use Rattle.interchange.specs.Forms.Kinds.{Tells, is_end}
-use Rattle.interchange.specs.Laws.KindLaws.{none_list, end_list}
+use Rattle.interchange.specs.Messages.{tag_at, kind_by}
+use Rattle.interchange.specs.declared.Kind.TheVariants.{Head as head, Trailer as trailer, Last as last, Other as other}
+use Rattle.interchange.specs.Envelope.{is_header, headed, is_unz, last_unz, ended, after_first, last_start, body_of}
+use Rattle.interchange.specs.Forms.Survey.{unz_by, unz_of}
 use Rattle.interchange.specs.Laws.OpenLaws.{headed_at_lem}
 
-module _ (v : Service) (s : List ℕ) (i : ℕ) (x : Bool) (inv : x ≡ ended v s (segments_from v s i)) where
-  none_ended : (k : Segment) → k ≡ segment_at v i s → ((t n : ℕ) → k ≡ segment.Finished t n → ⊥) → ended v s (segments_from v s i) ≡ false
-  unfolding last_of
-  none_ended (segment.Finished t n) c f = absurd (f t n refl)
-  none_ended segment.Unfinished c f = rw (list_unfinished v s i segment.Unfinished c refl)
-  none_ended segment.Nothing c f = rw (list_nothing v s i segment.Nothing c refl)
+-- ---- an unfinished segment is the last
+pub data Tidy : List Piece → Type 0 where
+  nil : Tidy []
+  one : (a e : ℕ) → Tidy (unfinished a e ∷ [])
+  more : (a t : ℕ) (l : List Piece) → Tidy l → Tidy (finished a t ∷ l)
 
-  pub ended_done : (k : Segment) → k ≡ segment_at v i s → ((t n : ℕ) → k ≡ segment.Finished t n → ⊥) → false ≡ x
-  ended_done k c f = sym (inv ∙ none_ended k c f)
+tidy_emit : (t : Bool) (a b : ℕ) (l : List Piece) → Tidy l → Tidy (emit t a b l)
+tidy_emit true a b l w = more a b l w
+tidy_emit false a b l w = w
 
-  -- at a finished segment
-  module _ (k : Segment) (c : k ≡ segment_at v i s) (t n : ℕ) (e : k ≡ segment.Finished t n) (g : ℕ) (q : Tells (tag_at v s i) g) (b : Bool) (d : b ≡ is_end s g n) where
-    ended_by_lem : x ≡ last_unz v s (eqb g UNZ) (segments_from v s n)
-    unfolding last_of
-    ended_by_lem = inv ∙ rw (list_finished v s i k c t n e) (ap (λ (y : Bool). last_unz v s y (segments_from v s n)) q.unz)
+tidy_left : (m : Mode) (st i : ℕ) → Tidy (left m st i)
+tidy_left gap st i = nil
+tidy_left initial st i = nil
+tidy_left inside st i = one st i
+tidy_left held st i = one st i
 
-    is_unz_lem : (y z : Bool) → if y z false ≡ true → y ≡ true
-    is_unz_lem true z w = refl
-    is_unz_lem false z w = w
+pub tidy_pieces : (v : Service) (m : Mode) (st i : ℕ) (l : List ℕ) → Tidy (pieces v m st i l)
+unfolding pieces
+tidy_pieces v m st i [] = tidy_left m st i
+tidy_pieces v m st i (b ∷ l) = tidy_emit (ends v m b) _ _ _ (tidy_pieces v (after v m b) (start_in m st i) (suc i) l)
 
-    pub ended_last : b ≡ true → true ≡ x
-    unfolding is_end last_of
-    ended_last y =
-        sym (ended_by_lem ∙ ap (last_unz v s (eqb g UNZ)) (end_list v s g n b d y) ∙ is_unz_lem (eqb g UNZ) (leb (length s) n) (sym d ∙ y))
+pub tidy_after : {l : List Piece} → Tidy l → Tidy (after_first l)
+tidy_after nil = nil
+tidy_after (one a e) = nil
+tidy_after (more a t l w) = w
 
-    -- what a segment is does not matter where others follow
-    not_last : (l : List Piece) (y z : Bool) → is_empty l ≡ z → if y z false ≡ false → last_unz v s y l ≡ last_unz v s false l
-    unfolding last_of
-    not_last [] true z w h = absurd (let u : ◌≡◌ {A = ℕ} 0 1 = cc in omega arith)
-    not_last [] false z w h = refl
-    not_last (p ∷ l) y z w h = refl
+-- ---- the count stops at the end UNZ, where there is one
+unz_last : (g : List ℕ) → says g "UNZ" ≡ true → kind_by g true ≡ last
+unfolding text same_list
+unz_last g e = let z : g ≡ text "UNZ" = same_eq g (text "UNZ") e in rw z refl
 
-    pub ended_on : b ≡ false → x ≡ ended v s (segments_from v s n)
-    unfolding is_end
-    ended_on y = ended_by_lem ∙ not_last (segments_from v s n) (eqb g UNZ) (leb (length s) n) (none_list v s n) (sym d ∙ y)
+no_unz : (t u : Bool) (i : ℕ) → unz_by (if t head (if u trailer other)) i None ≡ None
+no_unz true u i = refl
+no_unz false true i = refl
+no_unz false false i = refl
+
+at_end : (g : List ℕ) (a : ℕ) (b : Bool) → says g "UNZ" ≡ b → unz_by (kind_by g true) a None ≡ if b (Some a) None
+at_end g a true e = rw (unz_last g e) refl
+at_end g a false e = rw e (no_unz (says g "UNH") (says g "UNT") a)
+
+go_on : (t u w : Bool) (i : ℕ) (on : Option ℕ) → unz_by (if t head (if u trailer (if w other other))) i on ≡ on
+go_on true u w i on = refl
+go_on false true w i on = refl
+go_on false false true i on = refl
+go_on false false false i on = refl
+
+unz_is : (v : Service) (s : List ℕ) (d : ℕ) (b : Bool) (p : Piece) (l : List Piece) → Tidy (p ∷ l) → unz_of v s (p ∷ l) ≡ if (last_unz v s b (p ∷ l)) (Some (last_start d (p ∷ l))) None
+unfolding unz_of last_of
+unz_is v s d b _ _ (one a e) = refl
+unz_is v s d b _ [] (more a t _ w) = at_end (tag_at v s a) a (says (tag_at v s a) "UNZ") refl
+unz_is v s d b _ (q ∷ l) (more a t _ w) =
+    go_on (says (tag_at v s a) "UNH") (says (tag_at v s a) "UNT") (says (tag_at v s a) "UNZ") a (unz_of v s (q ∷ l))
+    ∙ unz_is v s a (says (tag_at v s a) "UNZ") q l w
+
+pub unz_ended : (v : Service) (s : List ℕ) (d : ℕ) (l : List Piece) → Tidy l → unz_of v s l ≡ if (ended v s l) (Some (last_start d l)) None
+unfolding unz_of last_of
+unz_ended v s d [] w = refl
+unz_ended v s d (p ∷ l) w = unz_is v s d false p l w
 
 -- ---- a UNB is no UNZ, so that the segments after it tell
 unb_unz : (l : List ℕ) → says l "UNB" ≡ true → says l "UNZ" ≡ false

@@ -1,53 +1,26 @@
 -- One turn of the loops that find a message. Each premise is a fact that a loop's proof has at hand. Assumes nothing.
-use Rattle.std.specs.Prelude.{ℕ, suc, ◌+◌, ◌≤◌, ◌<◌, ◌≡◌, refl, List, [], ◌∷◌, Bool, true, false, length, drop, eqb, leb}
-use Rattle.std.proofs.Math.Decide.{dec_lt}
-use Rattle.std.proofs.Common.{arith, ◌∙◌, ap, le-ltb, lt-ltb, eqb-true}
+use Rattle.std.specs.Prelude.{ℕ, ◌+◌, ◌≤◌, ◌<◌, ◌^◌, ◌≡◌, refl, List, [], ◌∷◌, Bool, true, false, length, drop, Option, Some, None, Err}
+use Rattle.std.proofs.Common.{arith, ◌∙◌, ap, lt-ltb, ◌⊎◌, inl, inr}
 use Rattle.std.proofs.Math.Path.{sym}
+use Rattle.numbers.specs.declared.Number.TheVariants as numbers
 use Rattle.service.specs.declared.Service.{Service}
-use Rattle.service.specs.Tests.{if}
-use Rattle.segments.specs.declared.Segment.{Segment}
-use Rattle.segments.specs.declared.Segment.TheVariants as segment
 use Rattle.segments.specs.Forms.Bytes.{past_breaks}
-use Rattle.segments.specs.Forms.Segments.{segment_at}
-use Rattle.segments.specs.Laws.SegmentsLaws.{segment_nothing, lies}
-use Rattle.segments.specs.SegmentList.{Piece, finished, Mode, gap, first, inside, held, after, ends, start_in, emit, left, pieces, segments_from, all_finished}
-use Rattle.segments.specs.Laws.ListLaws.{list_nothing, list_finished, list_unfinished, segments_after_lem}
-use Rattle.interchange.specs.declared.Found.{Found}
-use Rattle.interchange.specs.declared.Found.TheVariants as found
-use Rattle.interchange.specs.Messages.{tag_at, Kind, head, trailer, last, other, cut, kind_of, Extent, closed, unclosed, starts_at, ends_at, extent_by, extent_of, messages_by, messages_of, cut_before, found_one, found_by, found_in, found_from}
-use Rattle.values.specs.Forms.Codes.{UNH, UNT, UNZ}
-use Rattle.interchange.specs.Forms.Kinds.{Tells, kind_code, is_end}
-use Rattle.interchange.specs.Laws.KindLaws.{kind_head, kind_trailer, kind_last, kind_other, kind_at}
+use Rattle.segments.specs.declared.Piece.{Piece}
+use Rattle.segments.specs.declared.Piece.TheVariants.{Finished as finished, Unfinished as unfinished}
+use Rattle.segments.specs.declared.Segments.{Segments}
+use Rattle.segments.specs.declared.Text.{Text}
+use Rattle.segments.specs.Left.{segments_left, Steps}
+use Rattle.segments.specs.SegmentList.{start_of, segments_from, all_finished}
+use Rattle.segments.specs.Laws.ListLaws.{segments_after_lem}
+use Rattle.interchange.specs.declared.Refusal.{Refusal}
+use Rattle.interchange.specs.Answers.{Found, refusal}
+use Rattle.interchange.specs.Finds as found
+use Rattle.interchange.specs.Messages.{kind_of, past_of, Extent, closed, unclosed, starts_at, ends_at, extent_by, extent_of, messages_by, messages_of, cut_before, found_one, found_by, found_in, found_from}
+use Rattle.interchange.specs.declared.Kind.{Kind}
+use Rattle.interchange.specs.declared.Kind.TheVariants.{Head as head, Trailer as trailer, Last as last, Other as other, Cut as cut}
 use Rattle.interchange.specs.Forms.Found.{end_found}
-
--- ---- an unfinished segment begins no earlier than the bytes that are read
-start_low : (m : Mode) (e st i : ℕ) → e ≤ st → e ≤ i → e ≤ start_in m st i
-start_low gap e st i h g = g
-start_low first e st i h g = g
-start_low inside e st i h g = h
-start_low held e st i h g = h
-
-cut_emit : (e : ℕ) (t : Bool) (a b : ℕ) (l : List Piece) → cut_before e l ≡ false → cut_before e (emit t a b l) ≡ false
-unfolding cut_before
-cut_emit e true a b l h = h
-cut_emit e false a b l h = h
-
-cut_left : (m : Mode) (e st i : ℕ) → e ≤ st → cut_before e (left m st i) ≡ false
-unfolding cut_before
-cut_left gap e st i h = refl
-cut_left first e st i h = refl
-cut_left inside e st i h = simp (le-ltb st e h)
-cut_left held e st i h = simp (le-ltb st e h)
-
-pub cut_pieces : (v : Service) (m : Mode) (e st i : ℕ) (l : List ℕ) → e ≤ st → e ≤ i → cut_before e (pieces v m st i l) ≡ false
-unfolding pieces
-cut_pieces v m e st i [] h g = cut_left m e st i h
-cut_pieces v m e st i (b ∷ l) h g =
-    let w : e ≤ suc i = omega arith in
-    cut_emit e (ends v m b) _ _ _ (cut_pieces v (after v m b) e (start_in m st i) (suc i) l (start_low m e st i h g) w)
-
-pub cut_from : (v : Service) (s : List ℕ) (e n : ℕ) → e ≤ n → cut_before e (segments_from v s n) ≡ false
-cut_from v s e n h = cut_pieces v first e n n (drop n s) h h
+use Rattle.interchange.specs.Laws.KindLaws.{never_cut}
+use Rattle.interchange.specs.Laws.StepLaws.{Follows, passed, cut_off, kept, after_it, kind_is}
 
 -- what is found is the message: no unfinished segment begins before it ends
 whole : (m : Extent) (a e : ℕ) → starts_at m ≡ a → ends_at m ≡ e → (l : List Piece) → cut_before e l ≡ false → found.Message a e ≡ found_one m l
@@ -65,76 +38,12 @@ unfolding extent_of
 extent_starts v s a [] = refl
 extent_starts v s a (p ∷ l) = starts_by (kind_of v s p l) p a _ (extent_starts v s a l)
 
--- an unfinished segment has a byte
-pub unfinished_within : (v : Service) (s : List ℕ) (i : ℕ) (k : Segment) → k ≡ segment_at v i s → k ≡ segment.Unfinished → i < length s
-unfinished_within v s i k c e = go (dec_lt i (length s))
-  where
-    go : Dec (i < length s) → i < length s
-    go (yes h) = h
-    go (no g) =
-        let h : length s ≤ i = omega arith in
-        let q = segment_nothing v s i h ∙ sym c ∙ e in
-        absurd (let z : ◌≡◌ {A = ℕ} 0 1 = cc in omega arith)
-
-module _ (x : Found) (v : Service) (s : List ℕ) (a i : ℕ) (inv : x ≡ end_found v s a (segments_from v s i)) (k : Segment) (c : k ≡ segment_at v i s) where
-  pub end_nothing : k ≡ segment.Nothing → found.Message a (length s) ≡ x
-  unfolding end_found extent_of cut_before
-  end_nothing e = sym (inv ∙ rw (list_nothing v s i k c e))
-
-  pub end_cut : k ≡ segment.Unfinished → found.Unfinished ≡ x
-  unfolding end_found extent_of cut_before
-  end_cut e = let h = unfinished_within v s i k c e in sym (inv ∙ rw (list_unfinished v s i k c e) (simp (lt-ltb i (length s) h)))
-
-  module _ (t n : ℕ) (e : k ≡ segment.Finished t n) (g : ℕ) (q : Tells (tag_at v s i) g) where
-    by_kind : (j : Kind) → kind_code g (leb (length s) n) ≡ j → x ≡ found_one (extent_by j (finished i t) a (extent_of v s a (segments_from v s n))) (segments_from v s n)
-    unfolding end_found extent_of cut_before
-    by_kind j w = inv ∙ rw (list_finished v s i k c t n e, kind_at v s i t n g q, w)
-
-    pub end_trailer : g ≡ UNT → found.Message a (t + 1) ≡ x
-    end_trailer w =
-        let b = lies v s i k c t n e in
-        let h : t + 1 ≤ n = omega arith in
-        sym (by_kind trailer (kind_trailer g (leb (length s) n) w) ∙ sym (whole (closed a (t + 1)) a (t + 1) refl refl (segments_from v s n) (cut_from v s (t + 1) n h)))
-
-    pub end_head : g ≡ UNH → found.Message a i ≡ x
-    end_head w =
-        let b = lies v s i k c t n e in
-        let h : i ≤ n = omega arith in
-        sym (by_kind head (kind_head g (leb (length s) n) w) ∙ sym (whole (unclosed a i) a i refl refl (segments_from v s n) (cut_from v s i n h)))
-
-    pub end_last : (b : Bool) → b ≡ is_end s g n → b ≡ true → found.Message a i ≡ x
-    end_last b d w =
-        let l = lies v s i k c t n e in
-        let h : i ≤ n = omega arith in
-        sym (by_kind last (kind_last s g n b d w) ∙ sym (whole (unclosed a i) a i refl refl (segments_from v s n) (cut_from v s i n h)))
-
-    pub end_on : (g ≡ UNH → ⊥) → (g ≡ UNT → ⊥) → (b : Bool) → b ≡ is_end s g n → b ≡ false → x ≡ end_found v s a (segments_from v s n)
-    unfolding end_found
-    end_on y z b d w = by_kind other (kind_other s g n y z b d w)
-
--- ---- looking for a UNH
 none_by : (k : Kind) (m : Extent) (on : List Extent) → (k ≡ head → ⊥) → messages_by k m on ≡ on
 none_by head m on h = absurd (h refl)
 none_by trailer m on h = refl
 none_by last m on h = refl
 none_by other m on h = refl
 none_by cut m on h = refl
-
-head_by : (g : ℕ) (e : Bool) → (g ≡ UNH → ⊥) → (t : Bool) → eqb g UNH ≡ t → if t head (if (eqb g UNT) trailer (if (eqb g UNZ) (if e last other) other)) ≡ head → ⊥
-head_by g e h true q w = h (eqb_is g q)
-  where
-    eqb_is : (g : ℕ) → eqb g UNH ≡ true → g ≡ UNH
-    eqb_is g q = eqb-true g UNH q
-head_by g e h false q w = rest (eqb g UNT) (eqb g UNZ) e w
-  where
-    rest : (t u e : Bool) → if t trailer (if u (if e last other) other) ≡ head → ⊥
-    rest true u e w = let z : ◌≡◌ {A = ℕ} 0 1 = cc in omega arith
-    rest false true true w = let z : ◌≡◌ {A = ℕ} 0 1 = cc in omega arith
-    rest false true false w = let z : ◌≡◌ {A = ℕ} 0 1 = cc in omega arith
-    rest false false e w = let z : ◌≡◌ {A = ℕ} 0 1 = cc in omega arith
-
-pub not_head : (g : ℕ) (e : Bool) → (g ≡ UNH → ⊥) → kind_code g e ≡ head → ⊥
-not_head g e h w = head_by g e h (eqb g UNH) refl w
 
 pub found_start : (v : Service) (s : List ℕ) (at p : ℕ) → p ≡ past_breaks at (drop at s) → found_from v s at ≡ found_in v s (segments_from v s p)
 found_start v s at p e = ap (found_in v s) (segments_after_lem v s at p e)
@@ -144,27 +53,140 @@ unfolding cut_before all_finished
 skip_cut [] q a t l h = rw (← h) refl
 skip_cut (m ∷ p) q a t l h = rw (← h) refl
 
-module _ (x : Found) (v : Service) (s : List ℕ) (i : ℕ) (inv : x ≡ found_in v s (segments_from v s i)) (k : Segment) (c : k ≡ segment_at v i s) where
-  pub find_nothing : k ≡ segment.Nothing → found.Nothing ≡ x
+-- ---- a segment and those that follow it
+module _ (v : Service) (s : List ℕ) where
+  module _ (p : Piece) (l : List Piece) (f : Follows s p l) where
+    pub past_within : (kind_of v s p l ≡ cut → ⊥) → past_of p ≤ length s
+    past_within n = go p l f n
+      where
+        go : (p : Piece) (l : List Piece) → Follows s p l → (kind_of v s p l ≡ cut → ⊥) → past_of p ≤ length s
+        go _ _ (passed a t l i h w) n = omega arith
+        go _ _ (cut_off a e h) n = absurd (n refl)
+
+    told : (kind_of v s p l ≡ cut → ⊥) → (m : Extent) (a e : ℕ) → starts_at m ≡ a → ends_at m ≡ e → (e ≤ start_of p) ⊎ (e ≡ past_of p) → found.Message a e ≡ found_one m (p ∷ l)
+    unfolding cut_before
+    told n m a e i j o = whole m a e i j (p ∷ l) (go p l f n o)
+      where
+        go : (p : Piece) (l : List Piece) → Follows s p l → (kind_of v s p l ≡ cut → ⊥) → (e ≤ start_of p) ⊎ (e ≡ past_of p) → cut_before e (p ∷ l) ≡ false
+        go _ _ (passed b t l i h w) n (inl o) = w e (omega arith)
+        go _ _ (passed b t l i h w) n (inr o) = w e (omega arith)
+        go _ _ (cut_off b u h) n o = absurd (n refl)
+
+  cut_ends : (a : ℕ) {p : Piece} {l : List Piece} → Follows s p l → kind_of v s p l ≡ cut → found.Unfinished ≡ end_found v s a (p ∷ l)
+  unfolding end_found extent_of cut_before
+  cut_ends a (passed b t l i h w) e = absurd (never_cut _ _ e)
+  cut_ends a (cut_off b u h) e = simp (lt-ltb b (length s) h)
+
+  on_ends : (a : ℕ) {p : Piece} {l : List Piece} → Follows s p l → kind_of v s p l ≡ other → end_found v s a (p ∷ l) ≡ end_found v s a l
+  unfolding end_found extent_of cut_before
+  on_ends a (passed b t l i h w) e = ap (λ (k : Kind). found_one (extent_by k (finished b t) a (extent_of v s a l)) (finished b t ∷ l)) e
+  on_ends a (cut_off b u h) e = absurd (let z : ◌≡◌ {A = ℕ} 0 1 = cc in omega arith)
+
+  head_found : {p : Piece} {l : List Piece} → Follows s p l → kind_of v s p l ≡ head → end_found v s (start_of p) l ≡ found_in v s (p ∷ l)
+  unfolding end_found found_in messages_of cut_before
+  head_found (passed b t l i h w) e = rw e refl
+  head_found (cut_off b u h) e = absurd (let z : ◌≡◌ {A = ℕ} 0 1 = cc in omega arith)
+
+  cut_found : {p : Piece} {l : List Piece} → Follows s p l → kind_of v s p l ≡ cut → found.Unfinished ≡ found_in v s (p ∷ l)
   unfolding found_in messages_of all_finished
-  find_nothing e = sym (inv ∙ rw (list_nothing v s i k c e))
+  cut_found (passed b t l i h w) e = absurd (never_cut _ _ e)
+  cut_found (cut_off b u h) e = refl
 
-  pub find_cut : k ≡ segment.Unfinished → found.Unfinished ≡ x
+  on_found : {p : Piece} {l : List Piece} → Follows s p l → (kind_of v s p l ≡ head → ⊥) → (kind_of v s p l ≡ cut → ⊥) → found_in v s (p ∷ l) ≡ found_in v s l
+  unfolding found_in messages_of
+  on_found (passed b t l i h w) n c = skip_cut _ (messages_of v s l) b t l (none_by _ (extent_of v s b l) (messages_of v s l) n)
+  on_found (cut_off b u h) n c = absurd (c refl)
+
+-- ---- the end of a message that begins at a
+pub record Ending (x : Found) (t : Text) (a : ℕ) (r : Segments) : Type 0 where
+  pub told : x ≡ end_found t.service t.bytes.now a (segments_left r)
+  pub text : r.text ≡ t
+
+pub ending_start : (a : ℕ) (r : Segments) → Ending (end_found r.text.service r.text.bytes.now a (segments_left r)) r.text a r
+ending_start a r = record { told = refl; text = refl }
+
+module _ (x : Found) (t : Text) (a : ℕ) (r q : Segments) (inv : Ending x t a r) where
+  pub end_nothing : Steps r None q → found.Message a (length t.bytes.now) ≡ x
+  unfolding end_found extent_of cut_before
+  end_nothing w = sym (inv.told ∙ ap (end_found t.service t.bytes.now a) w.yields.0)
+
+  module _ (p : Piece) (w : Steps r (Some p) q) (k : Kind) (c : k ≡ kind_of q.text.service q.text.bytes.now p (segments_left q)) where
+    is_kind : kind_of t.service t.bytes.now p (segments_left q) ≡ k
+    is_kind = kind_is t r q inv.text p w k c
+
+    next : Follows t.bytes.now p (segments_left q)
+    next = after_it t r q inv.text p w
+
+    by_list : x ≡ end_found t.service t.bytes.now a (p ∷ segments_left q)
+    by_list = inv.told ∙ ap (end_found t.service t.bytes.now a) w.yields
+
+    by_kind : (j : Kind) → k ≡ j → x ≡ found_one (extent_by j p a (extent_of t.service t.bytes.now a (segments_left q))) (p ∷ segments_left q)
+    unfolding end_found extent_of
+    by_kind j e = by_list ∙ ap (λ (i : Kind). found_one (extent_by i p a (extent_of t.service t.bytes.now a (segments_left q))) (p ∷ segments_left q)) (is_kind ∙ e)
+
+    whole_kind : (j : Kind) → k ≡ j → (j ≡ cut → ⊥) → kind_of t.service t.bytes.now p (segments_left q) ≡ cut → ⊥
+    whole_kind j e n h = n (sym e ∙ sym is_kind ∙ h)
+
+    pub end_fits : k ≡ trailer → length t.bytes.now < 2 ^ 64 → past_of p ≤ 18446744073709551615
+    end_fits e h = let o = past_within t.service t.bytes.now p (segments_left q) next (whole_kind trailer e (λ y. let z : ◌≡◌ {A = ℕ} 0 1 = cc in omega arith)) in omega arith
+
+    pub end_trailer : k ≡ trailer → (e : ℕ) → e ≡ past_of p → found.Message a e ≡ x
+    end_trailer o e h =
+        told t.service t.bytes.now p (segments_left q) next (whole_kind trailer o (λ y. let z : ◌≡◌ {A = ℕ} 0 1 = cc in omega arith)) (closed a (past_of p)) a e refl (sym h) (inr h)
+        ∙ sym (by_kind trailer o)
+
+    pub end_head : k ≡ head → (e : ℕ) → e ≡ start_of p → found.Message a e ≡ x
+    end_head o e h =
+        told t.service t.bytes.now p (segments_left q) next (whole_kind head o (λ y. let z : ◌≡◌ {A = ℕ} 0 1 = cc in omega arith)) (unclosed a (start_of p)) a e refl (sym h) (inl (omega arith))
+        ∙ sym (by_kind head o)
+
+    pub end_last : k ≡ last → (e : ℕ) → e ≡ start_of p → found.Message a e ≡ x
+    end_last o e h =
+        told t.service t.bytes.now p (segments_left q) next (whole_kind last o (λ y. let z : ◌≡◌ {A = ℕ} 0 1 = cc in omega arith)) (unclosed a (start_of p)) a e refl (sym h) (inl (omega arith))
+        ∙ sym (by_kind last o)
+
+    pub end_cut : k ≡ cut → (f : Refusal) → f ≡ refusal numbers.End → Err f ≡ x
+    end_cut e f h = ap Err h ∙ cut_ends t.service t.bytes.now a next (is_kind ∙ e) ∙ sym by_list
+
+    pub end_on : k ≡ other → Ending x t a q
+    end_on e = record { told = by_list ∙ on_ends t.service t.bytes.now a next (is_kind ∙ e); text = kept t r q inv.text p w }
+
+-- ---- looking for a UNH
+pub record Finding (x : Found) (t : Text) (r : Segments) : Type 0 where
+  pub told : x ≡ found_in t.service t.bytes.now (segments_left r)
+  pub text : r.text ≡ t
+
+pub finding_start : (t : Text) (at p : ℕ) → p ≡ past_breaks at (drop at t.bytes.now) → (r : Segments) → segments_left r ≡ segments_from t.service t.bytes.now p → r.text ≡ t → Finding (found_from t.service t.bytes.now at) t r
+finding_start t at p e r h g = record { told = found_start t.service t.bytes.now at p e ∙ ap (found_in t.service t.bytes.now) (sym h); text = g }
+
+module _ (x : Found) (t : Text) (r q : Segments) (inv : Finding x t r) where
+  pub find_nothing : Steps r None q → found.Nothing ≡ x
   unfolding found_in messages_of all_finished
-  find_cut e = sym (inv ∙ rw (list_unfinished v s i k c e))
+  find_nothing w = sym (inv.told ∙ ap (found_in t.service t.bytes.now) w.yields.0)
 
-  module _ (t n : ℕ) (e : k ≡ segment.Finished t n) (g : ℕ) (q : Tells (tag_at v s i) g) where
-    pub find_head : g ≡ UNH → (y : Found) → y ≡ end_found v s i (segments_from v s n) → y ≡ x
-    unfolding found_in messages_of end_found cut_before
-    find_head w y d = d ∙ sym (inv ∙ rw (list_finished v s i k c t n e, kind_at v s i t n g q, kind_head g (leb (length s) n) w))
+  module _ (p : Piece) (w : Steps r (Some p) q) (k : Kind) (c : k ≡ kind_of q.text.service q.text.bytes.now p (segments_left q)) where
+    kind_here : kind_of t.service t.bytes.now p (segments_left q) ≡ k
+    kind_here = kind_is t r q inv.text p w k c
 
-    skip : (g ≡ UNH → ⊥) → messages_of v s (finished i t ∷ segments_from v s n) ≡ messages_of v s (segments_from v s n)
-    unfolding messages_of
-    skip w = rw (kind_at v s i t n g q) (none_by (kind_code g (leb (length s) n)) (extent_of v s i (segments_from v s n)) (messages_of v s (segments_from v s n)) (not_head g (leb (length s) n) w))
+    next_here : Follows t.bytes.now p (segments_left q)
+    next_here = after_it t r q inv.text p w
 
-    pub find_on : (g ≡ UNH → ⊥) → x ≡ found_in v s (segments_from v s n)
-    unfolding found_in
-    find_on w =
-        inv
-        ∙ rw (list_finished v s i k c t n e)
-        (skip_cut (messages_of v s (finished i t ∷ segments_from v s n)) (messages_of v s (segments_from v s n)) i t (segments_from v s n) (skip w))
+    list_here : x ≡ found_in t.service t.bytes.now (p ∷ segments_left q)
+    list_here = inv.told ∙ ap (found_in t.service t.bytes.now) w.yields
+
+    pub find_head : k ≡ head → (a : ℕ) → a ≡ start_of p → (y : Found) → y ≡ end_found q.text.service q.text.bytes.now a (segments_left q) → y ≡ x
+    find_head e a h y g =
+        g
+        ∙ ap (λ (u : Text). end_found u.service u.bytes.now a (segments_left q)) (kept t r q inv.text p w)
+        ∙ ap (λ (i : ℕ). end_found t.service t.bytes.now i (segments_left q)) h
+        ∙ head_found t.service t.bytes.now next_here (kind_here ∙ e)
+        ∙ sym list_here
+
+    pub find_cut : k ≡ cut → (f : Refusal) → f ≡ refusal numbers.End → Err f ≡ x
+    find_cut e f h = ap Err h ∙ cut_found t.service t.bytes.now next_here (kind_here ∙ e) ∙ sym list_here
+
+    pub find_on : (k ≡ head → ⊥) → (k ≡ cut → ⊥) → Finding x t q
+    find_on n o = record {
+      told = list_here ∙ on_found t.service t.bytes.now next_here (λ h. n (sym kind_here ∙ h)) (λ h. o (sym kind_here ∙ h));
+      text = kept t r q inv.text p w;
+    }

@@ -13,7 +13,7 @@ use Rattle.segments.specs.Laws.FitLaws.{fits_sound}
 use Rattle.segments.specs.Laws.ListLaws.{segments_after_lem}
 use Rattle.parts.specs.Parts.{lex, value_of}
 use Rattle.values.specs.Text.{text}
-use Rattle.interchange.specs.declared.Opening.TheVariants.{Opens}
+use Rattle.interchange.specs.Answers.{Opens}
 use Rattle.interchange.specs.Messages.{tag_at, messages_of}
 use Rattle.interchange.specs.Envelope.{first_at, body_of}
 use Rattle.interchange.specs.Forms.Answers.{opening_of}

@@ -1,28 +1,34 @@
 -- What the tests of the code say of a segment's kind, and a kind of the tag. Assumes nothing.
-use Rattle.std.specs.Prelude.{ℕ, ◌≤◌, ◌<◌, ◌≡◌, refl, List, [], Bool, true, false, length, drop, eqb, leb}
+use Rattle.std.specs.Prelude.{ℕ, ◌≤◌, ◌<◌, ◌≡◌, refl, List, [], ◌∷◌, Bool, true, false, length, drop, eqb, leb, get_or}
 use Rattle.std.proofs.Math.Decide.{dec_lt}
-use Rattle.std.proofs.Common.{arith, sym, ◌∙◌, ap, eq-eqb, ne_eqb, le-leb, eqb-true, leb-true}
+use Rattle.std.proofs.Common.{arith, sym, ◌∙◌, ap, eq-eqb, ne_eqb, le-leb, drop-cons}
 use Rattle.std.proofs.lemmas.Bool.{lt-leb}
 use Rattle.service.specs.declared.Service.{Service}
 use Rattle.service.specs.Tests.{if, is_empty}
-use Rattle.segments.specs.declared.End.{End}
-use Rattle.segments.specs.declared.End.TheVariants.{At, None}
+use Rattle.std.specs.Prelude.{Option}
+use Rattle.std.specs.Prelude.{Some, None}
+use Rattle.segments.specs.declared.Class.TheVariants.{Plain, Comp, Elem, Term}
+use Rattle.segments.specs.Classes.{class_of}
 use Rattle.segments.specs.Forms.Bytes.{end_from}
 use Rattle.segments.specs.Forms.Segments.{segment_by}
 use Rattle.segments.specs.Laws.SegmentsLaws.{segment_by_lem}
-use Rattle.segments.specs.SegmentList.{finished, segments_from}
+use Rattle.segments.specs.declared.Piece.{Piece}
+use Rattle.segments.specs.declared.Piece.TheVariants.{Finished as finished, Unfinished as unfinished}
+use Rattle.segments.specs.SegmentList.{segments_from}
 use Rattle.segments.specs.Laws.SyncLaws.{rest_nothing}
 use Rattle.segments.specs.Laws.ListLaws.{list_by, segments_at}
-use Rattle.values.specs.Text.{text, says}
+use Rattle.parts.specs.Parts.{Tok, lex_by, lex, value_of}
+use Rattle.values.specs.Text.{text, says, same_list}
 use Rattle.values.specs.Laws.TextLaws.{same_eq}
-use Rattle.interchange.specs.Messages.{tag_at, head, trailer, last, other, kind_by, kind_of}
+use Rattle.values.specs.Forms.Values.{code_of}
+use Rattle.interchange.specs.Messages.{tag_at, kind_by, kind_of}
+use Rattle.interchange.specs.declared.Kind.TheVariants.{Head as head, Trailer as trailer, Last as last, Other as other, Cut as cut}
 use Rattle.values.specs.Forms.Codes.{UNH, UNT, UNZ}
-use Rattle.interchange.specs.Forms.Kinds.{Tells, kind_code, is_end}
-use Rattle.interchange.specs.Laws.TellsLaws.{kind_tells}
+use Rattle.interchange.specs.Laws.TagLaws.{unh_code, unt_code, unz_code}
 
 -- no segment is left exactly if no byte is
-some_by : (v : Service) (s : List ℕ) (n : ℕ) (k : End) → is_empty (list_by (segment_by s k) n (length s) (segments_from v s)) ≡ false
-some_by v s n (At t) = refl
+some_by : (v : Service) (s : List ℕ) (n : ℕ) (k : Option ℕ) → is_empty (list_by (segment_by s k) n (length s) (segments_from v s)) ≡ false
+some_by v s n (Some t) = refl
 some_by v s n None = refl
 
 pub none_list : (v : Service) (s : List ℕ) (n : ℕ) → is_empty (segments_from v s n) ≡ leb (length s) n
@@ -35,49 +41,79 @@ none_list v s n = go (dec_lt n (length s))
         ∙ sym (lt-leb (length s) n h)
     go (no g) = let h : length s ≤ n = omega arith in ap is_empty (rest_nothing v s n h) ∙ sym (le-leb (length s) n h)
 
-pub end_unz : (s : List ℕ) (g n : ℕ) → g ≡ UNZ → leb (length s) n ≡ is_end s g n
-unfolding is_end
-end_unz s g n e = simp (eq-eqb g UNZ e)
+-- ---- the kind by the tests of the code
+-- a first byte that is neither U nor the release: the tag begins with it or is empty
+none_empty : (e : Bool) → other ≡ kind_by [] e
+unfolding text same_list
+none_empty e = refl
 
-pub end_other : (s : List ℕ) (g n : ℕ) → (g ≡ UNZ → ⊥) → false ≡ is_end s g n
-unfolding is_end
-end_other s g n e = simp (ne_eqb g UNZ e)
+none_other : (b : ℕ) (l : List ℕ) (e : Bool) → (b ≡ 85 → ⊥) → other ≡ kind_by (b ∷ l) e
+unfolding text same_list
+none_other b l e n = simp (ne_eqb b 85 n)
 
--- ---- kinds by the tests
-pub kind_head : (g : ℕ) (e : Bool) → g ≡ UNH → kind_code g e ≡ head
-kind_head g e h = simp (eq-eqb g UNH h)
+none_by : (b : ℕ) (rel on : List Tok) (e : Bool) → (b ≡ 85 → ⊥) → (t u w r : Bool) → other ≡ kind_by (value_of (lex_by (if t Term (if u Elem (if w Comp (if r Plain Plain)))) b rel on)) e
+unfolding value_of
+none_by b rel on e n true u w r = none_empty e
+none_by b rel on e n false true w r = none_empty e
+none_by b rel on e n false false true r = none_empty e
+none_by b rel on e n false false false true = none_other b (value_of on) e n
+none_by b rel on e n false false false false = none_other b (value_of on) e n
 
-pub kind_trailer : (g : ℕ) (e : Bool) → g ≡ UNT → kind_code g e ≡ trailer
-kind_trailer g e h = rw h refl
+pub other_byte : (v : Service) (s : List ℕ) (at : ℕ) → at < length s → (get_or s at 0 ≡ 85 → ⊥) → (get_or s at 0 ≡ v.release → ⊥) → (e : Bool) → other ≡ kind_by (tag_at v s at) e
+unfolding tag_at lex class_of
+other_byte v s at h n f e =
+    rw (drop-cons s at 0)
+    (simp (ne_eqb (get_or s at 0) v.release f)
+    (none_by (get_or s at 0) _ _ e n (eqb (get_or s at 0) v.terminator) (eqb (get_or s at 0) v.element) (eqb (get_or s at 0) v.component) v.releases))
 
-end_is : (s : List ℕ) (g n : ℕ) (t : Bool) → eqb g UNZ ≡ t → if t (leb (length s) n) false ≡ true → kind_code g (leb (length s) n) ≡ last
-end_is s g n true q h = let z : g ≡ UNZ = eqb-true g UNZ q in rw (h, z) refl
-end_is s g n false q h = absurd (let z : ◌≡◌ {A = ℕ} 0 1 = cc in omega arith)
+module _ (l : List ℕ) (g : ℕ) (q : g ≡ code_of l) where
+  by_code : (e : Bool) → kind_by l e ≡ if (eqb g UNH) head (if (eqb g UNT) trailer (if (eqb g UNZ) (if e last other) other))
+  by_code e = rw (q, unh_code l, unt_code l, unz_code l) refl
 
-pub kind_last : (s : List ℕ) (g n : ℕ) (b : Bool) → b ≡ is_end s g n → b ≡ true → kind_code g (leb (length s) n) ≡ last
-unfolding is_end
-kind_last s g n b c e = end_is s g n (eqb g UNZ) refl (sym c ∙ e)
+  pub tag_head : g ≡ UNH → (e : Bool) → head ≡ kind_by l e
+  tag_head h e = sym (by_code e ∙ simp (eq-eqb g UNH h))
 
-not_end : (s : List ℕ) (n : ℕ) (t : Bool) → if t (leb (length s) n) false ≡ false → if t (if (leb (length s) n) last other) other ≡ other
-not_end s n true h = rw h refl
-not_end s n false h = refl
+  module _ (h : g ≡ UNH → ⊥) where
+    pub tag_trailer : g ≡ UNT → (e : Bool) → trailer ≡ kind_by l e
+    tag_trailer u e = sym (by_code e ∙ simp (ne_eqb g UNH h, eq-eqb g UNT u))
 
-pub kind_other : (s : List ℕ) (g n : ℕ) → (g ≡ UNH → ⊥) → (g ≡ UNT → ⊥) → (b : Bool) → b ≡ is_end s g n → b ≡ false → kind_code g (leb (length s) n) ≡ other
-unfolding is_end
-kind_other s g n p q b c e = simp (ne_eqb g UNH p, ne_eqb g UNT q) (not_end s n (eqb g UNZ) (sym c ∙ e))
+    module _ (u : g ≡ UNT → ⊥) (v : Service) (s : List ℕ) (n : ℕ) where
+      pub tag_last : g ≡ UNZ → length s ≤ n → last ≡ kind_by l (is_empty (segments_from v s n))
+      tag_last z o =
+          sym (by_code (is_empty (segments_from v s n)) ∙ simp (ne_eqb g UNH h, ne_eqb g UNT u, eq-eqb g UNZ z) (rw (none_list v s n ∙ le-leb (length s) n o) refl))
 
--- the kind of the segment at i
-pub kind_at : (v : Service) (s : List ℕ) (i t n g : ℕ) → Tells (tag_at v s i) g → kind_of v s (finished i t) (segments_from v s n) ≡ kind_code g (leb (length s) n)
-kind_at v s i t n g q = kind_tells (tag_at v s i) g q (is_empty (segments_from v s n)) ∙ rw (none_list v s n) refl
+      pub tag_inner : n < length s → other ≡ kind_by l (is_empty (segments_from v s n))
+      tag_inner o = sym (by_code (is_empty (segments_from v s n)) ∙ simp (ne_eqb g UNH h, ne_eqb g UNT u) (rw (none_list v s n ∙ lt-leb (length s) n o) (same (eqb g UNZ))))
+        where
+          same : (t : Bool) → if t other other ≡ other
+          same true = refl
+          same false = refl
 
--- no segment follows the end UNZ
-list_end : (v : Service) (s : List ℕ) (n : ℕ) (t : Bool) → if t (leb (length s) n) false ≡ true → segments_from v s n ≡ []
-list_end v s n true h = rest_nothing v s n (leb-true (length s) n h)
-list_end v s n false h = absurd (let z : ◌≡◌ {A = ℕ} 0 1 = cc in omega arith)
+      pub tag_other : (g ≡ UNZ → ⊥) → other ≡ kind_by l (is_empty (segments_from v s n))
+      tag_other z = sym (by_code (is_empty (segments_from v s n)) ∙ simp (ne_eqb g UNH h, ne_eqb g UNT u, ne_eqb g UNZ z))
 
-pub end_list : (v : Service) (s : List ℕ) (g n : ℕ) (b : Bool) → b ≡ is_end s g n → b ≡ true → segments_from v s n ≡ []
-unfolding is_end
-end_list v s g n b c e = list_end v s n (eqb g UNZ) (sym c ∙ e)
+-- a finished segment is not cut off, and none follows the end UNZ
+cut_by : (t u w e : Bool) → if t head (if u trailer (if w (if e last other) other)) ≡ cut → ⊥
+cut_by true u w e q = let z : ◌≡◌ {A = ℕ} 0 1 = cc in omega arith
+cut_by false true w e q = let z : ◌≡◌ {A = ℕ} 0 1 = cc in omega arith
+cut_by false false true true q = let z : ◌≡◌ {A = ℕ} 0 1 = cc in omega arith
+cut_by false false true false q = let z : ◌≡◌ {A = ℕ} 0 1 = cc in omega arith
+cut_by false false false e q = let z : ◌≡◌ {A = ℕ} 0 1 = cc in omega arith
+
+pub never_cut : (g : List ℕ) (e : Bool) → kind_by g e ≡ cut → ⊥
+never_cut g e = cut_by (says g "UNH") (says g "UNT") (says g "UNZ") e
+
+last_by : (t u w e : Bool) → if t head (if u trailer (if w (if e last other) other)) ≡ last → e ≡ true
+last_by true u w e q = absurd (let z : ◌≡◌ {A = ℕ} 0 1 = cc in omega arith)
+last_by false true w e q = absurd (let z : ◌≡◌ {A = ℕ} 0 1 = cc in omega arith)
+last_by false false true true q = refl
+last_by false false true false q = absurd (let z : ◌≡◌ {A = ℕ} 0 1 = cc in omega arith)
+last_by false false false e q = absurd (let z : ◌≡◌ {A = ℕ} 0 1 = cc in omega arith)
+
+pub none_after : (v : Service) (s : List ℕ) (p : Piece) (l : List Piece) → kind_of v s p l ≡ last → l ≡ []
+none_after v s (finished a t) [] e = refl
+none_after v s (finished a t) (q ∷ l) e = absurd (let h = last_by (says (tag_at v s a) "UNH") (says (tag_at v s a) "UNT") (says (tag_at v s a) "UNZ") false e in let z : ◌≡◌ {A = ℕ} 0 1 = cc in omega arith)
+none_after v s (unfinished a u) l e = absurd (let z : ◌≡◌ {A = ℕ} 0 1 = cc in omega arith)
 
 -- ---- a kind says the tag
 head_by : (g : List ℕ) (t u x e : Bool) → says g "UNH" ≡ t → if t head (if u trailer (if x (if e last other) other)) ≡ head → g ≡ text "UNH"

@@ -2,7 +2,9 @@
 use Rattle.std.specs.Prelude.{ℕ, ◌+◌, ◌-◌, ◌≤◌, ◌≡◌, refl, List, ◌∷◌, map, length, take, drop}
 use Rattle.std.proofs.Common.{sym, ◌∙◌, ap, ap₂}
 use Rattle.service.specs.declared.Service.{Service}
-use Rattle.segments.specs.SegmentList.{Piece, finished, segments_after}
+use Rattle.segments.specs.declared.Piece.{Piece}
+use Rattle.segments.specs.declared.Piece.TheVariants.{Finished as finished}
+use Rattle.segments.specs.SegmentList.{segments_after}
 use Rattle.segments.specs.Sync.{shift}
 use Rattle.segments.specs.Laws.ClearLaws.{passed}
 use Rattle.parts.specs.Parts.{Tok, elements}

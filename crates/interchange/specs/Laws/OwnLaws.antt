@@ -11,7 +11,9 @@ use Rattle.segments.specs.declared.Segment.TheVariants as segment
 use Rattle.segments.specs.Classes.{class_of, is_break}
 use Rattle.segments.specs.Forms.Segments.{segment_at}
 use Rattle.segments.specs.Laws.SegmentsLaws.{finished_end}
-use Rattle.segments.specs.SegmentList.{Piece, finished, unfinished, gap, mode, ended, emit, pieces, segments_from, segments_after, all_finished}
+use Rattle.segments.specs.declared.Piece.{Piece}
+use Rattle.segments.specs.declared.Piece.TheVariants.{Finished as finished, Unfinished as unfinished}
+use Rattle.segments.specs.SegmentList.{gap, mode, ended, emit, pieces, segments_from, segments_after, all_finished}
 use Rattle.segments.specs.Sync.{shift}
 use Rattle.segments.specs.Laws.ResyncLaws.{gap_start, pieces_append, unbroken, gap_first}
 use Rattle.segments.specs.Laws.ClosedLaws.{segments_moved}
@@ -20,7 +22,9 @@ use Rattle.segments.specs.Laws.ListLaws.{list_finished, list_unfinished, list_no
 use Rattle.parts.specs.Parts.{Tok, lex, value_of}
 use Rattle.parts.proofs.Laws.PartLaws.{tokens_in_part}
 use Rattle.values.specs.Text.{text, same_list, says}
-use Rattle.interchange.specs.Messages.{tag_at, Kind, head, trailer, last, other, cut, kind_of, Extent, ends_at, is_closed, bytes_of, extent_by, extent_of, closed_at, ends_closed}
+use Rattle.interchange.specs.Messages.{tag_at, kind_of, Extent, ends_at, is_closed, bytes_of, extent_by, extent_of, closed_at, ends_closed}
+use Rattle.interchange.specs.declared.Kind.{Kind}
+use Rattle.interchange.specs.declared.Kind.TheVariants.{Head as head, Trailer as trailer, Last as last, Other as other, Cut as cut}
 use Rattle.interchange.specs.Laws.FindLaws.{extent_starts}
 use Rattle.interchange.specs.Laws.WalkLaws.{Placed, end, at}
 

@@ -1,30 +1,29 @@
--- One turn of the loop that counts messages and strays, and what closing makes of the counts. Each premise is a fact that a proof has at hand.
--- Assumes nothing.
-use Rattle.std.specs.Prelude.{ℕ, ◌+◌, ◌≤◌, ◌<◌, ◌≡◌, List, [], ◌∷◌, Bool, true, false, not, drop, eqb, leb}
-use Rattle.std.proofs.Math.Decide.{dec_lt}
-use native.Mathlib.Omega.{arith}
-use Rattle.std.proofs.Math.Path.{refl, ap}
-use Rattle.std.proofs.Common.{sym, ◌∙◌, eqb-true}
-use Rattle.std.proofs.Math.ListN.{length}
-use Rattle.std.proofs.lemmas.Bool.{eqb-false}
+-- One turn of the loop that counts messages and strays, and the segments after the first. Each premise is a fact that a proof has at hand. Assumes nothing.
+use Rattle.std.specs.Prelude.{ℕ, suc, ◌+◌, ◌≤◌, ◌<◌, ◌^◌, ◌≡◌, refl, List, [], ◌∷◌, Bool, true, false, length, Option, Some, None, Result, Ok, Err}
+use Rattle.std.proofs.Common.{arith, sym, ◌∙◌, ap, ap₂, Fits}
+use Rattle.std.specs.Int.{w64}
+use Rattle.numbers.specs.declared.Number.TheVariants as numbers
 use Rattle.service.specs.declared.Service.{Service}
-use Rattle.service.specs.Tests.{if}
-use Rattle.segments.specs.declared.End.{End}
-use Rattle.segments.specs.declared.End.TheVariants.{At, None}
 use Rattle.segments.specs.declared.Segment.{Segment}
 use Rattle.segments.specs.declared.Segment.TheVariants as segment
-use Rattle.segments.specs.Forms.Bytes.{end_from}
-use Rattle.segments.specs.Forms.Segments.{segment_by, segment_at}
-use Rattle.segments.specs.Laws.SegmentsLaws.{segment_by_lem, lies}
-use Rattle.segments.specs.SegmentList.{finished, segments_from}
-use Rattle.segments.specs.Laws.SyncLaws.{rest_nothing}
-use Rattle.segments.specs.Laws.ListLaws.{list_by, segments_at, list_nothing, list_finished, list_unfinished}
-use Rattle.interchange.specs.Messages.{tag_at, Kind, head, trailer, last, other, extent_of, messages_by, messages_of, stays, stray_by, strays_of}
-use Rattle.values.specs.Forms.Codes.{UNH, UNT}
-use Rattle.interchange.specs.Forms.Kinds.{Tells, kind_code, is_end}
+use Rattle.segments.specs.Forms.Segments.{segment_at}
+use Rattle.segments.specs.Laws.SegmentsLaws.{lies}
+use Rattle.segments.specs.Laws.StartsLaws.{starts_count, starts_few}
+use Rattle.segments.specs.declared.Piece.{Piece}
+use Rattle.segments.specs.declared.Segments.{Segments}
+use Rattle.segments.specs.declared.Text.{Text}
+use Rattle.segments.specs.Left.{segments_left, Steps}
+use Rattle.segments.specs.SegmentList.{start_of, segments_from}
+use Rattle.interchange.specs.declared.Refusal.{Refusal}
+use Rattle.interchange.specs.declared.Survey.{Survey}
+use Rattle.interchange.specs.Answers.{refusal}
+use Rattle.interchange.specs.Messages.{kind_of, extent_of, messages_by, messages_of, stays, stray_by, strays_of}
+use Rattle.interchange.specs.declared.Kind.{Kind}
+use Rattle.interchange.specs.declared.Kind.TheVariants.{Head as head, Trailer as trailer, Last as last, Other as other, Cut as cut}
 use Rattle.interchange.specs.Envelope.{after_first, body_of}
-use Rattle.interchange.specs.Laws.KindLaws.{end_list, kind_head, kind_trailer, kind_last, kind_other, kind_at}
-use Rattle.interchange.specs.Forms.Survey.{past_by, past_at, stop_by, stop_of, farther}
+use Rattle.interchange.specs.Laws.KindLaws.{none_after}
+use Rattle.interchange.specs.Laws.StepLaws.{kept, kind_is}
+use Rattle.interchange.specs.Forms.Survey.{past_by, past_at, unz_by, unz_of, surveyed, survey_of}
 
 module _ (v : Service) (s : List ℕ) (i : ℕ) (k : Segment) (c : k ≡ segment_at v i s) where
   past_by_lem : past_by (length s) k ≡ past_at v s i
@@ -33,12 +32,6 @@ module _ (v : Service) (s : List ℕ) (i : ℕ) (k : Segment) (c : k ≡ segment
 
   pub past_finished : (t n : ℕ) → k ≡ segment.Finished t n → n ≡ past_at v s i
   past_finished t n e = rw e at past_by_lem
-
-  pub past_unfinished : k ≡ segment.Unfinished → length s ≡ past_at v s i
-  past_unfinished e = rw e at past_by_lem
-
-  pub past_nothing : k ≡ segment.Nothing → length s ≡ past_at v s i
-  past_nothing e = rw e at past_by_lem
 
 within_by : (v : Service) (s : List ℕ) (i : ℕ) (k : Segment) → k ≡ segment_at v i s → past_by (length s) k ≤ length s
 within_by v s i (segment.Finished t n) c = (lies v s i (segment.Finished t n) c t n refl).within
@@ -49,142 +42,73 @@ pub past_within : (v : Service) (s : List ℕ) (i p : ℕ) → p ≡ past_at v s
 unfolding past_at
 past_within v s i p e = let w = within_by v s i (segment_at v i s) refl in omega arith
 
-body_by : (v : Service) (s : List ℕ) (i : ℕ) (k : Segment) → segments_from v s (past_by (length s) k) ≡ after_first (list_by k i (length s) (segments_from v s))
-body_by v s i (segment.Finished t n) = refl
-body_by v s i segment.Unfinished = let h : length s ≤ length s = omega arith in rest_nothing v s (length s) h
-body_by v s i segment.Nothing = let h : length s ≤ length s = omega arith in rest_nothing v s (length s) h
+-- past the first segment
+pub body_left : (v : Service) (s : List ℕ) (at : ℕ) (r : Segments) → segments_left r ≡ segments_from v s at → (o : Option Piece) (q : Segments) → Steps r o q → segments_left q ≡ body_of v s at
+body_left v s at r e (Some p) q w = sym (ap after_first (sym e ∙ w.yields))
+body_left v s at r e None q w = w.yields.1 ∙ sym (ap after_first (sym e ∙ w.yields.0))
 
-pub past_body : (v : Service) (s : List ℕ) (i p : ℕ) → p ≡ past_at v s i → segments_from v s p ≡ body_of v s i
-unfolding past_at
-past_body v s i p e = rw e (body_by v s i (segment_at v i s) ∙ ap after_first (sym (segments_at v s i)))
+-- ---- the count
+pub record Surveying (x : Result Survey Refusal) (t : Text) (m z : ℕ) (b : Bool) (r : Segments) : Type 0 where
+  pub told : x ≡ surveyed (unz_of t.service t.bytes.now (segments_left r)) (m + length (messages_of t.service t.bytes.now (segments_left r))) (z + length (strays_of t.service t.bytes.now b (segments_left r)))
+  pub messages : m + length (segments_left r) ≤ length t.bytes.now
+  pub strays : z + length (segments_left r) ≤ length t.bytes.now
+  pub text : r.text ≡ t
 
--- ---- one turn
-pub nothing_past : (v : Service) (s : List ℕ) (i : ℕ) (k : Segment) → k ≡ segment_at v i s → k ≡ segment.Nothing → length s ≤ i
-nothing_past v s i k c e = go (dec_lt i (length s))
-  where
-    not_by : (x : End) → segment_by s x ≡ segment.Nothing → ⊥
-    not_by (At t) q = let z : ◌≡◌ {A = ℕ} 0 1 = cc in omega arith
-    not_by None q = let z : ◌≡◌ {A = ℕ} 0 1 = cc in omega arith
+pub survey_start : (r : Segments) → Surveying (survey_of r.text.service r.text.bytes.now (segments_left r)) r.text 0 0 false r
+unfolding survey_of
+survey_start r =
+    let a = starts_count r.text.service r.text.bytes.now r.at in
+    let c = starts_few r.text.service r.text.bytes.now r.at in
+    record { told = ap₂ (surveyed (unz_of r.text.service r.text.bytes.now (segments_left r))) (omega arith) (omega arith); messages = omega arith; strays = omega arith; text = refl }
 
-    go : Dec (i < length s) → length s ≤ i
-    go (yes h) = absurd (not_by (end_from v false i (drop i s)) (segment_by_lem v s i h (end_from v false i (drop i s)) refl ∙ sym c ∙ e))
-    go (no g) = omega arith
+module _ (x : Result Survey Refusal) (t : Text) (m z : ℕ) (b : Bool) (r q : Segments) (inv : Surveying x t m z b r) where
+  pub survey_nothing : Steps r None q → (f : Refusal) → f ≡ refusal numbers.End → Err f ≡ x
+  unfolding unz_of
+  survey_nothing w f h = ap Err h ∙ sym (inv.told ∙ ap (λ (l : List Piece). surveyed (unz_of t.service t.bytes.now l) (m + length (messages_of t.service t.bytes.now (segments_left r))) (z + length (strays_of t.service t.bytes.now b (segments_left r)))) w.yields.0)
 
--- the next segment begins within the bytes
-pub far_keep : (v : Service) (s : List ℕ) (i : ℕ) (k : Segment) → k ≡ segment_at v i s → (t n : ℕ) → k ≡ segment.Finished t n → (at : ℕ) → n ≤ farther at (length s)
-far_keep v s i k c t n e at = let w = lies v s i k c t n e in omega arith
+  module _ (p : Piece) (w : Steps r (Some p) q) where
+    pub survey_fits : length t.bytes.now < 2 ^ 64 → Fits w64 (m + 1) × Fits w64 (z + 1)
+    survey_fits h = let i = inv.messages in let j = inv.strays in let e = ap length w.yields in (record { fits = omega arith }, record { fits = omega arith })
 
--- where no finished segment is left
-module _ (v : Service) (s : List ℕ) (i : ℕ) where
-  none_counted : (k : Segment) → k ≡ segment_at v i s → ((t n : ℕ) → k ≡ segment.Finished t n → ⊥) → messages_of v s (segments_from v s i) ≡ []
-  unfolding messages_of
-  none_counted (segment.Finished t n) c f = absurd (f t n refl)
-  none_counted segment.Unfinished c f = rw (list_unfinished v s i segment.Unfinished c refl)
-  none_counted segment.Nothing c f = rw (list_nothing v s i segment.Nothing c refl)
+    module _ (k : Kind) (c : k ≡ kind_of q.text.service q.text.bytes.now p (segments_left q)) where
+      by_kind : (j : Kind) → k ≡ j
+          → x ≡ surveyed (unz_by j (start_of p) (unz_of t.service t.bytes.now (segments_left q))) (m + length (messages_by j (extent_of t.service t.bytes.now (start_of p) (segments_left q)) (messages_of t.service t.bytes.now (segments_left q)))) (z + length (stray_by j b p (strays_of t.service t.bytes.now (stays j b) (segments_left q))))
+      unfolding unz_of messages_of strays_of
+      by_kind j e =
+          inv.told
+          ∙ ap (λ (l : List Piece). surveyed (unz_of t.service t.bytes.now l) (m + length (messages_of t.service t.bytes.now l)) (z + length (strays_of t.service t.bytes.now b l))) w.yields
+          ∙ ap (λ (i : Kind). surveyed (unz_by i (start_of p) (unz_of t.service t.bytes.now (segments_left q))) (m + length (messages_by i (extent_of t.service t.bytes.now (start_of p) (segments_left q)) (messages_of t.service t.bytes.now (segments_left q)))) (z + length (stray_by i b p (strays_of t.service t.bytes.now (stays i b) (segments_left q))))) (kind_is t r q inv.text p w k c ∙ e)
 
-  none_strayed : (r : Bool) (k : Segment) → k ≡ segment_at v i s → ((t n : ℕ) → k ≡ segment.Finished t n → ⊥) → strays_of v s r (segments_from v s i) ≡ []
-  unfolding strays_of
-  none_strayed r (segment.Finished t n) c f = absurd (f t n refl)
-  none_strayed r segment.Unfinished c f = rw (list_unfinished v s i segment.Unfinished c refl)
-  none_strayed r segment.Nothing c f = rw (list_nothing v s i segment.Nothing c refl)
+      -- the counts of the next turn: one more at most
+      turn : (i j : ℕ) (d : Bool) → x ≡ surveyed (unz_of t.service t.bytes.now (segments_left q)) (i + length (messages_of t.service t.bytes.now (segments_left q))) (j + length (strays_of t.service t.bytes.now d (segments_left q))) → i ≤ m + 1 → j ≤ z + 1
+          → Surveying x t i j d q
+      turn i j d e g h = let a = inv.messages in let o = inv.strays in let y = ap length w.yields in record { told = e; messages = omega arith; strays = omega arith; text = kept t r q inv.text p w }
 
-  none_stopped : (at : ℕ) → at ≤ i → i ≤ farther at (length s) → (k : Segment) → k ≡ segment_at v i s → ((t n : ℕ) → k ≡ segment.Finished t n → ⊥) → i ≡ stop_of v s (farther at (length s)) (segments_from v s i)
-  unfolding stop_of
-  none_stopped at l h (segment.Finished t n) c f = absurd (f t n refl)
-  none_stopped at l h segment.Unfinished c f = rw (list_unfinished v s i segment.Unfinished c refl)
-  none_stopped at l h segment.Nothing c f =
-      let g = nothing_past v s i segment.Nothing c refl in
-      let e : i ≡ farther at (length s) = omega arith in
-      rw (list_nothing v s i segment.Nothing c refl) e
+      pub survey_head : k ≡ head → Surveying x t (m + 1) z true q
+      survey_head e = turn (m + 1) z true (by_kind head e ∙ ap (λ (n : ℕ). surveyed (unz_of t.service t.bytes.now (segments_left q)) n (z + length (strays_of t.service t.bytes.now true (segments_left q)))) (omega arith)) (omega arith) (omega arith)
 
-  module _ (k : Segment) (c : k ≡ segment_at v i s) (f : (t n : ℕ) → k ≡ segment.Finished t n → ⊥) where
-    pub count_done : (x m : ℕ) → x ≡ m + length (messages_of v s (segments_from v s i)) → m ≡ x
-    count_done x m inv = let w = ap length (none_counted k c f) in omega arith
+      pub survey_trailer : k ≡ trailer → b ≡ true → Surveying x t m z false q
+      survey_trailer e h = turn m z false (by_kind trailer e ∙ rw h refl) (omega arith) (omega arith)
 
-    pub stray_done : (x m : ℕ) (r : Bool) → x ≡ m + length (strays_of v s r (segments_from v s i)) → m ≡ x
-    stray_done x m r inv = let w = ap length (none_strayed r k c f) in omega arith
+      pub survey_other : k ≡ other → b ≡ true → Surveying x t m z b q
+      survey_other e h = turn m z b (by_kind other e ∙ rw h refl) (omega arith) (omega arith)
 
-    pub stop_done : (at : ℕ) → at ≤ i → i ≤ farther at (length s) → (x : ℕ) → x ≡ stop_of v s (farther at (length s)) (segments_from v s i) → i ≡ x
-    stop_done at l h x inv = none_stopped at l h k c f ∙ sym inv
+      one_more : (d : Bool) → x ≡ surveyed (unz_of t.service t.bytes.now (segments_left q)) (m + length (messages_of t.service t.bytes.now (segments_left q))) (z + suc (length (strays_of t.service t.bytes.now d (segments_left q)))) → Surveying x t m (z + 1) d q
+      one_more d e = turn m (z + 1) d (e ∙ ap (surveyed (unz_of t.service t.bytes.now (segments_left q)) (m + length (messages_of t.service t.bytes.now (segments_left q)))) (omega arith)) (omega arith) (omega arith)
 
-  -- at a finished segment
-  module _ (k : Segment) (c : k ≡ segment_at v i s) (t n : ℕ) (e : k ≡ segment.Finished t n) (g : ℕ) (q : Tells (tag_at v s i) g) where
-    messages_by_lem : (j : Kind) → kind_code g (leb (length s) n) ≡ j → messages_of v s (segments_from v s i) ≡ messages_by j (extent_of v s i (segments_from v s n)) (messages_of v s (segments_from v s n))
-    unfolding messages_of
-    messages_by_lem j w = rw (list_finished v s i k c t n e, kind_at v s i t n g q, w)
+      pub survey_stray_trailer : k ≡ trailer → b ≡ false → Surveying x t m (z + 1) b q
+      survey_stray_trailer e h = one_more b (by_kind trailer e ∙ rw h refl)
 
-    strays_by : (r : Bool) (j : Kind) → kind_code g (leb (length s) n) ≡ j → strays_of v s r (segments_from v s i) ≡ stray_by j r (finished i t) (strays_of v s (stays j r) (segments_from v s n))
-    unfolding strays_of
-    strays_by r j w = rw (list_finished v s i k c t n e, kind_at v s i t n g q, w)
+      pub survey_stray : k ≡ other → b ≡ false → Surveying x t m (z + 1) b q
+      survey_stray e h = one_more b (by_kind other e ∙ rw h refl)
 
-    stop_by_lem : (far : ℕ) (j : Kind) → kind_code g (leb (length s) n) ≡ j → stop_of v s far (segments_from v s i) ≡ stop_by j i (stop_of v s far (segments_from v s n))
-    unfolding stop_of
-    stop_by_lem far j w = rw (list_finished v s i k c t n e, kind_at v s i t n g q, w)
+      pub survey_cut : k ≡ cut → (f : Refusal) → f ≡ refusal numbers.End → Err f ≡ x
+      survey_cut e f h = ap Err h ∙ sym (by_kind cut e)
 
-    module _ (b : Bool) (d : b ≡ is_end s g n) where
-      -- the end UNZ
-      module _ (y : b ≡ true) where
-        no_more : segments_from v s n ≡ []
-        no_more = end_list v s g n b d y
-
-        pub count_last : (x m : ℕ) → x ≡ m + length (messages_of v s (segments_from v s i)) → m ≡ x
-        unfolding messages_of
-        count_last x m inv = let w = ap length (messages_by_lem last (kind_last s g n b d y) ∙ ap (messages_of v s) no_more) in omega arith
-
-        pub stray_last : (x m : ℕ) (r : Bool) → x ≡ m + length (strays_of v s r (segments_from v s i)) → m ≡ x
-        unfolding strays_of
-        stray_last x m r inv = let w = ap length (strays_by r last (kind_last s g n b d y) ∙ ap (strays_of v s false) no_more) in omega arith
-
-        pub stop_last : (far x : ℕ) → x ≡ stop_of v s far (segments_from v s i) → i ≡ x
-        stop_last far x inv = sym (inv ∙ stop_by_lem far last (kind_last s g n b d y))
-
-      module _ (y : b ≡ false) where
-        -- a UNH
-        module _ (z : g ≡ UNH) where
-          pub count_head : (x m : ℕ) → x ≡ m + length (messages_of v s (segments_from v s i)) → x ≡ m + 1 + length (messages_of v s (segments_from v s n))
-          count_head x m inv = let w = ap length (messages_by_lem head (kind_head g (leb (length s) n) z)) in omega arith
-
-          pub stray_head : (x m : ℕ) (r : Bool) → x ≡ m + length (strays_of v s r (segments_from v s i)) → x ≡ m + length (strays_of v s true (segments_from v s n))
-          stray_head x m r inv = let w = ap length (strays_by r head (kind_head g (leb (length s) n) z)) in omega arith
-
-          pub stop_head : (far x : ℕ) → x ≡ stop_of v s far (segments_from v s i) → x ≡ stop_of v s far (segments_from v s n)
-          stop_head far x inv = inv ∙ stop_by_lem far head (kind_head g (leb (length s) n) z)
-
-        -- no UNH: a UNT or any other
-        module _ (z : g ≡ UNH → ⊥) where
-          rest_by : (u : Bool) → eqb g UNT ≡ u → kind_code g (leb (length s) n) ≡ if u trailer other
-          rest_by true w = kind_trailer g (leb (length s) n) (eqb-true g UNT w)
-          rest_by false w = kind_other s g n z (eqb-false g UNT w) b d y
-
-          pub count_on : (x m : ℕ) → x ≡ m + length (messages_of v s (segments_from v s i)) → x ≡ m + length (messages_of v s (segments_from v s n))
-          count_on x m inv = let w = ap length (messages_by_lem (if (eqb g UNT) trailer other) (rest_by (eqb g UNT) refl) ∙ same (eqb g UNT)) in omega arith
-            where
-              same : (u : Bool) → messages_by (if u trailer other) (extent_of v s i (segments_from v s n)) (messages_of v s (segments_from v s n)) ≡ messages_of v s (segments_from v s n)
-              same true = refl
-              same false = refl
-
-          pub stop_on : (far x : ℕ) → x ≡ stop_of v s far (segments_from v s i) → x ≡ stop_of v s far (segments_from v s n)
-          stop_on far x inv = inv ∙ stop_by_lem far (if (eqb g UNT) trailer other) (rest_by (eqb g UNT) refl) ∙ same (eqb g UNT)
-            where
-              same : (u : Bool) → stop_by (if u trailer other) i (stop_of v s far (segments_from v s n)) ≡ stop_of v s far (segments_from v s n)
-              same true = refl
-              same false = refl
-
-          pub stray_inside : (x m : ℕ) (r : Bool) → r ≡ true → x ≡ m + length (strays_of v s r (segments_from v s i)) → x ≡ m + length (strays_of v s (not (eqb g UNT)) (segments_from v s n))
-          stray_inside x m r h inv =
-              let w = ap length (ap (λ (p : Bool). strays_of v s p (segments_from v s i)) h ∙ strays_by true (if (eqb g UNT) trailer other) (rest_by (eqb g UNT) refl) ∙ same (eqb g UNT)) in
-              omega arith
-            where
-              same : (u : Bool) → stray_by (if u trailer other) true (finished i t) (strays_of v s (stays (if u trailer other) true) (segments_from v s n)) ≡ strays_of v s (not u) (segments_from v s n)
-              same true = refl
-              same false = refl
-
-          pub stray_outside : (x m : ℕ) (r : Bool) → r ≡ false → x ≡ m + length (strays_of v s r (segments_from v s i)) → x ≡ m + 1 + length (strays_of v s r (segments_from v s n))
-          stray_outside x m r h inv =
-              let w = ap length (ap (λ (p : Bool). strays_of v s p (segments_from v s i)) h ∙ strays_by false (if (eqb g UNT) trailer other) (rest_by (eqb g UNT) refl) ∙ same (eqb g UNT)) in
-              let o = ap (λ (p : Bool). length (strays_of v s p (segments_from v s n))) h in
-              omega arith
-            where
-              same : (u : Bool) → stray_by (if u trailer other) false (finished i t) (strays_of v s (stays (if u trailer other) false) (segments_from v s n)) ≡ finished i t ∷ strays_of v s false (segments_from v s n)
-              same true = refl
-              same false = refl
+      pub survey_last : k ≡ last → (n : ℕ) → n ≡ start_of p → ◌≡◌ {A = Result Survey Refusal} (Ok (record { messages = m; strays = z; end = n })) x
+      unfolding messages_of strays_of
+      survey_last e n h =
+          let d = none_after t.service t.bytes.now p (segments_left q) (kind_is t r q inv.text p w k c ∙ e) in
+          let i : m + length (messages_of t.service t.bytes.now (segments_left q)) ≡ m = ap (λ (l : List Piece). m + length (messages_of t.service t.bytes.now l)) d ∙ omega arith in
+          let j : z + length (strays_of t.service t.bytes.now false (segments_left q)) ≡ z = ap (λ (l : List Piece). z + length (strays_of t.service t.bytes.now false l)) d ∙ omega arith in
+          sym (by_kind last e ∙ ap₂ (surveyed (Some (start_of p))) i j ∙ rw h refl)

@@ -8,19 +8,23 @@ use mathlib.Core.List.{List, [], ◌∷◌}
 use Rattle.std.proofs.Math.ListN.{length}
 use Rattle.service.specs.declared.Service.{Service}
 use Rattle.service.specs.Tests.{if, is_empty}
-use Rattle.segments.specs.declared.End.{End}
-use Rattle.segments.specs.declared.End.TheVariants.{At, None}
+use Rattle.std.specs.Prelude.{Option}
+use Rattle.std.specs.Prelude.{Some, None}
 use Rattle.segments.specs.declared.Segment.{Segment}
 use Rattle.segments.specs.declared.Segment.TheVariants as segment
 use Rattle.segments.specs.Forms.Bytes.{end_from, past_breaks}
 use Rattle.segments.specs.Forms.Segments.{segment_by, segment_at}
 use Rattle.segments.specs.Laws.SegmentsLaws.{segment_nothing, segment_by_lem}
-use Rattle.segments.specs.SegmentList.{Piece, finished, unfinished, segments_from, segments_after, all_finished}
+use Rattle.segments.specs.declared.Piece.{Piece}
+use Rattle.segments.specs.declared.Piece.TheVariants.{Finished as finished, Unfinished as unfinished}
+use Rattle.segments.specs.SegmentList.{segments_from, segments_after, all_finished}
 use Rattle.segments.specs.Laws.SyncLaws.{skipped, rest_nothing}
 use Rattle.segments.specs.Laws.ListLaws.{list_nothing, list_finished, list_unfinished, segments_after_lem}
 use Rattle.values.specs.Text.{says}
-use Rattle.interchange.specs.declared.Found.TheVariants as found
-use Rattle.interchange.specs.Messages.{tag_at, Kind, head, trailer, last, other, cut, kind_by, kind_of, Extent, starts_at, ends_at, extent_by, extent_of, messages_by, messages_of, cut_before, found_one, found_by, found_in, found_from}
+use Rattle.interchange.specs.Finds as found
+use Rattle.interchange.specs.Messages.{tag_at, kind_by, kind_of, Extent, starts_at, ends_at, extent_by, extent_of, messages_by, messages_of, cut_before, found_one, found_by, found_in, found_from}
+use Rattle.interchange.specs.declared.Kind.{Kind}
+use Rattle.interchange.specs.declared.Kind.TheVariants.{Head as head, Trailer as trailer, Last as last, Other as other, Cut as cut}
 use Rattle.interchange.specs.Laws.FindLaws.{extent_starts, skip_cut}
 use Rattle.interchange.specs.Walk.{Visits, done, step, Own, none, also}
 
@@ -153,8 +157,8 @@ settled v s i p e =
     ap (past_breaks p) (sym (drop-drop (p - i) i s ∙ ap (λ (m : ℕ). drop m s) n)) ∙ rw e (settled_in v i (drop i s))
 
 -- where the next segment begins
-next_by_lem : (s : List ℕ) (k : End) (t n : ℕ) → segment_by s k ≡ segment.Finished t n → n ≡ past_breaks (t + 1) (drop (t + 1) s)
-next_by_lem s (At u) t n e =
+next_by_lem : (s : List ℕ) (k : Option ℕ) (t n : ℕ) → segment_by s k ≡ segment.Finished t n → n ≡ past_breaks (t + 1) (drop (t + 1) s)
+next_by_lem s (Some u) t n e =
     let a : u ≡ t = cc in
     let d : past_breaks (u + 1) (drop (u + 1) s) ≡ n = cc in
     sym d ∙ ap (λ (m : ℕ). past_breaks (m + 1) (drop (m + 1) s)) a

@@ -9,17 +9,19 @@ use Rattle.segments.specs.declared.Segment.{Segment}
 use Rattle.segments.specs.declared.Segment.TheVariants as segment
 use Rattle.segments.specs.Forms.Bytes.{past_breaks}
 use Rattle.segments.specs.Forms.Segments.{segment_at}
-use Rattle.segments.specs.SegmentList.{Piece, finished, segments_from, segments_after, all_finished}
+use Rattle.segments.specs.declared.Piece.{Piece}
+use Rattle.segments.specs.declared.Piece.TheVariants.{Finished as finished}
+use Rattle.segments.specs.SegmentList.{segments_from, segments_after, all_finished}
 use Rattle.segments.specs.Laws.ListLaws.{list_nothing, list_finished, list_unfinished, segments_after_lem}
 use Rattle.values.specs.Text.{text, same_list, says}
 use Rattle.values.specs.Laws.TextLaws.{same_eq}
-use Rattle.interchange.specs.declared.Opening.TheVariants.{Opens}
-use Rattle.interchange.specs.declared.Closing.{Closing}
+use Rattle.interchange.specs.Answers.{Opens}
+use Rattle.interchange.specs.Answers.{Closing}
 use Rattle.interchange.specs.Messages.{tag_at, messages_of, found_in, found_from}
-use Rattle.interchange.specs.Envelope.{is_header, headed, is_unz, last_unz, after_first, body_of}
+use Rattle.interchange.specs.Envelope.{is_header, headed, is_unz, last_unz, after_first, body_of, messages_told}
 use Rattle.interchange.specs.Forms.Answers.{opening_of, closed_by, closing_by, closing_of}
 use Rattle.interchange.specs.Laws.OpenedLaws.{opened}
-use Rattle.interchange.specs.Laws.CloseLaws.{Tidy, nil, one, more, tidy_pieces}
+use Rattle.interchange.specs.Laws.EndedLaws.{Tidy, nil, one, more, tidy_pieces}
 use Rattle.interchange.specs.Forms.Survey.{past_at}
 use Rattle.interchange.specs.Laws.SurveyLaws.{past_finished}
 use Rattle.interchange.specs.Walk.{Visits, Own}
@@ -96,6 +98,6 @@ module _ (s : List ℕ) (v : Service) (first : ℕ) (o : opening_of s ≡ Opens 
   owns = subst (λ (l : List Piece). Own v s (messages_of v s l)) body_is (own v s header.body)
 
   -- their number is what closing tells and compares
-  pub counts : (closing_of s).messages ≡ length (messages_of v s (body_of v s first))
+  pub counts : messages_told (closing_of s) ≡ length (messages_of v s (body_of v s first))
   unfolding closing_of closed_by
-  counts = ap (λ (c : Closing). c.messages) (ap (closing_by s) o)
+  counts = ap messages_told (ap (closing_by s) o)

@@ -1,5 +1,5 @@
 -- What is found lies within the bytes, and what is counted is no more than the bytes. Assumes nothing.
-use Rattle.std.specs.Prelude.{ℕ, suc, ◌+◌, ◌≤◌, ◌<◌, ◌≡◌, refl, Bool, true, false, length, drop}
+use Rattle.std.specs.Prelude.{ℕ, suc, ◌+◌, ◌≤◌, ◌<◌, ◌≡◌, refl, Bool, true, false, length, drop, IfOk}
 use native.Mathlib.Omega.{arith}
 use Rattle.std.proofs.Common.{sym, ◌∙◌}
 use Rattle.std.proofs.Math.Path.{subst}
@@ -12,18 +12,24 @@ use Rattle.segments.specs.Forms.Bytes.{past_breaks}
 use Rattle.segments.specs.Forms.Segments.{segment_at}
 use Rattle.segments.specs.Laws.SegmentsLaws.{lies}
 use Rattle.segments.specs.Laws.SyncLaws.{skipped}
-use Rattle.segments.specs.SegmentList.{Piece, finished, unfinished, segments_from, all_finished}
+use Rattle.segments.specs.declared.Piece.{Piece}
+use Rattle.segments.specs.declared.Piece.TheVariants.{Finished as finished, Unfinished as unfinished}
+use Rattle.segments.specs.SegmentList.{segments_from, all_finished}
 use Rattle.segments.specs.Laws.ListLaws.{list_nothing, list_finished, list_unfinished}
-use Rattle.interchange.specs.declared.Opening.{Opening}
-use Rattle.interchange.specs.declared.Opening.TheVariants.{Opens}
-use Rattle.interchange.specs.declared.Closing.{Closing}
-use Rattle.interchange.specs.declared.Found.{Found}
-use Rattle.interchange.specs.declared.Found.TheVariants as found
-use Rattle.interchange.specs.Messages.{Kind, head, trailer, last, other, cut, kind_of, Extent, starts_at, ends_at, extent_by, extent_of, messages_by, messages_of, stays, stray_by, strays_of, cut_before, found_by, found_in, found_from}
+use Rattle.interchange.specs.Answers.{Opening}
+use Rattle.interchange.specs.Answers.{Opens}
+use Rattle.interchange.specs.Answers.{Closing}
+use Rattle.interchange.specs.declared.Closing as code
+use Rattle.interchange.specs.Answers.{Found}
+use Rattle.interchange.specs.Finds as found
+use Rattle.interchange.specs.Messages.{kind_of, Extent, starts_at, ends_at, extent_by, extent_of, messages_by, messages_of, stays, stray_by, strays_of, cut_before, found_by, found_in, found_from}
+use Rattle.interchange.specs.declared.Kind.{Kind}
+use Rattle.interchange.specs.declared.Kind.TheVariants.{Head as head, Trailer as trailer, Last as last, Other as other, Cut as cut}
 use Rattle.interchange.specs.Envelope.{after_first, message_count, stray_count}
 use Rattle.interchange.specs.Opened.{Opened, OpenedAs}
 use Rattle.interchange.specs.Closed.{ClosedAs, unopened, closes}
-use Rattle.interchange.specs.Laws.FindLaws.{extent_starts, found_start, unfinished_within}
+use Rattle.interchange.specs.Laws.FindLaws.{extent_starts, found_start}
+use Rattle.interchange.specs.Laws.StepLaws.{unfinished_within}
 use Rattle.interchange.specs.Laws.OpenedLaws.{opened, opening_is}
 
 -- ---- the bytes of a message, a part of those from a position on
@@ -155,7 +161,7 @@ pub opened_short : (s : List ℕ) (o : Opening) → OpenedAs s o → (v : Servic
 opened_short s o w v first e = (opened s v first (sym (opening_is s o w) ∙ e)).short
 
 -- "at most 1,048,576 bytes": no more messages and strays than bytes where the interchange opens, and none where it does not
-pub record Few (c : Closing) : Type 0 where
+pub record Few (c : code.Closing) : Type 0 where
   pub messages : c.messages ≤ 1048576
   pub strays : c.strays ≤ 1048576
 
@@ -167,6 +173,6 @@ few_counted s v first o =
     let k = few_strays v s false (after_first (segments_from v s first)) in
     (omega arith, omega arith)
 
-pub closing_small : (s : List ℕ) {c : Closing} → ClosedAs s c → Few c
-closing_small s (unopened n l) = record { messages = omega arith; strays = omega arith }
+pub closing_small : (s : List ℕ) {c : Closing} → ClosedAs s c → IfOk c Few
+closing_small s (unopened n l) = tt
 closing_small s (closes v first n o l) = let w = few_counted s v first o in record { messages = omega arith; strays = omega arith }

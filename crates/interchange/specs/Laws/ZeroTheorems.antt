@@ -5,18 +5,20 @@ use Rattle.std.proofs.Math.Path.{ap}
 use Rattle.std.proofs.Math.Logic.{⊎_elim}
 use mathlib.Core.List.{List, [], ◌∷◌}
 use Rattle.service.specs.declared.Service.{Service}
-use Rattle.service.specs.declared.Characters.TheVariants.{Fit}
+use Rattle.service.specs.Service.{Fit}
 use Rattle.service.specs.Service.{Fits, characters_of}
 use Rattle.service.specs.Laws.FitLaws.{characters_fit}
 use Rattle.service.specs.Laws.UnaLaws.{named, nine}
 use Rattle.segments.specs.declared.Class.TheVariants.{Comp}
 use Rattle.segments.specs.Classes.{class_of}
-use Rattle.segments.specs.SegmentList.{Piece, finished, segments_from, segments_after}
+use Rattle.segments.specs.declared.Piece.{Piece}
+use Rattle.segments.specs.declared.Piece.TheVariants.{Finished as finished}
+use Rattle.segments.specs.SegmentList.{segments_from, segments_after}
 use Rattle.segments.specs.Laws.ListLaws.{segments_after_lem}
 use Rattle.segments.specs.Laws.UnaLaws.{plain_letter, comp_class, letter_u, letter_n, letter_a, una_segment}
 use Rattle.parts.specs.Parts.{lex, value_of}
 use Rattle.values.specs.Text.{text, same_list}
-use Rattle.interchange.specs.declared.Opening.TheVariants.{Opens}
+use Rattle.interchange.specs.Answers.{Opens}
 use Rattle.interchange.specs.Messages.{tag_at, messages_of, found_in, found_from}
 use Rattle.interchange.specs.Envelope.{first_at, body_of}
 use Rattle.interchange.specs.Forms.Answers.{opening_of}

@@ -1,14 +1,15 @@
 -- The three lines of document 01's example, an accepted message's and a failed opening's. Assumes nothing.
 use Rattle.std.specs.Prelude.{◌≡◌, refl}
+use Rattle.numbers.specs.declared.Number.TheVariants as numbers
 use Rattle.values.specs.Text.{text}
-use Rattle.report.specs.declared.Report.TheVariants.{Accepted, Refused}
+use Rattle.report.specs.Answers.{Accepted, Refused}
 use Rattle.lines.specs.Lines.{last_digits, decimal, spaced, line, message_line, end_line, open_line}
 
-pub first : message_line 1 (Refused (record { number = 16; segment = 2; offset = 22 })) ≡ text "MSG 1 NO 16 2 22\n"
+pub first : message_line 1 (Refused (record { number = numbers.Placement; segment = 2; offset = 22 })) ≡ text "MSG 1 NO 16 2 22\n"
 unfolding line spaced decimal last_digits text
 first = refl
 
-pub second : message_line 2 (Refused (record { number = 12; segment = 1; offset = 0 })) ≡ text "MSG 2 NO 12 1 0\n"
+pub second : message_line 2 (Refused (record { number = numbers.Type; segment = 1; offset = 0 })) ≡ text "MSG 2 NO 12 1 0\n"
 unfolding line spaced decimal last_digits text
 second = refl
 

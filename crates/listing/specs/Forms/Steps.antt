@@ -7,11 +7,10 @@ use Rattle.message.specs.Segs.{row_of, MOA5}
 use Rattle.message.specs.Rules.{worth}
 use Rattle.listing.specs.Listing.{low16, low32}
 
--- one segment of the row x at i, k of them written: its row and its start are, one more is written
-pub record SegmentPut (i x k : ℕ) (r r' s s' : List ℕ) (k' : ℕ) : Type 0 where
+-- one segment of the row x at i, k of them written: its row and its start are
+pub record SegmentPut (i x k : ℕ) (r r' s s' : List ℕ) : Type 0 where
   pub rows : r' ≡ set r k (low16 x)
   pub starts : s' ≡ set s k (low32 i)
-  pub past : k' ≡ k + 1
 
 -- the amount of the MOA that begins at i: the second component of its first element
 abbrev pub total_at : Service → List ℕ → ℕ → ℕ

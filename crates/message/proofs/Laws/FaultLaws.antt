@@ -1,13 +1,10 @@
 -- The least of all that rules tell is the first rule that has a place, where the rules stand in the order of their ranks. Assumes nothing.
-use Rattle.std.specs.Prelude.{ℕ, ◌<◌, ◌≤◌, ◌≡◌, List, [], ◌∷◌, ◌++◌, Bool, true, false, ltb, leb}
+use Rattle.std.specs.Prelude.{ℕ, ◌<◌, ◌≤◌, ◌≡◌, List, [], ◌∷◌, ◌++◌, Bool, true, false, ltb, leb, Option, None, Some}
 use Rattle.std.proofs.Common.{arith, ap, ◌∙◌, lt-ltb, le-ltb, le-leb}
 use Rattle.std.proofs.Math.Decide.{dec_lt}
 use Rattle.std.proofs.Math.Path.{refl}
 use Rattle.std.proofs.lemmas.Bool.{lt-leb}
 use Rattle.service.specs.Tests.{if}
-use Rattle.faults.specs.declared.First.TheVariants as first
-use Rattle.faults.specs.declared.Fault.{Fault}
-use Rattle.faults.specs.declared.Fault.TheVariants as fault
 use Rattle.faults.specs.Firsts.{lesser, lesser_by, number_first}
 use Rattle.message.specs.Faults.{rank, Told, told, tell, tell_all, lower, least, least_of}
 use Rattle.message.specs.Forms.Run.{first_of}
@@ -52,11 +49,11 @@ least_place : ℕ → List ℕ → ℕ
 least_place p [] = p
 least_place p (q ∷ qs) = lower_place (leb p (least_place q qs)) p (least_place q qs)
 
-lesser_place : (b : Bool) (p q : ℕ) → lesser_by b p q ≡ first.At (lower_place b p q)
+lesser_place : (b : Bool) (p q : ℕ) → lesser_by b p q ≡ Some (lower_place b p q)
 lesser_place true p q = refl
 lesser_place false p q = refl
 
-first_place_lem : (p : ℕ) (ps : List ℕ) → first_of (p ∷ ps) ≡ first.At (least_place p ps)
+first_place_lem : (p : ℕ) (ps : List ℕ) → first_of (p ∷ ps) ≡ Some (least_place p ps)
 unfolding first_of lesser least_place
 first_place_lem p [] = refl
 first_place_lem p (q ∷ qs) = rw (first_place_lem q qs) (lesser_place (leb p (least_place q qs)) p (least_place q qs))
@@ -82,7 +79,7 @@ Rising n [] = Unit {0}
 Rising n (r ∷ rs) = (n < rank r.0) × Rising (rank r.0) rs
 
 -- the first rule with a place, before what is left
-abbrev pub by_rules : List (ℕ × List ℕ) → Fault → Fault
+abbrev pub by_rules : List (ℕ × List ℕ) → Option Told → Option Told
 by_rules [] v = v
 by_rules (r ∷ rs) v = number_first r.0 (first_of r.1) (by_rules rs v)
 
@@ -93,7 +90,7 @@ above_all n k (r ∷ rs) h g =
     let e : n < rank r.0 = omega arith in
     above_tell n r.0 r.1 (tell_all rs) e (above_all n (rank r.0) rs (omega arith) g.1)
 
-pub by_rules_lem : (k : ℕ) (rs : List (ℕ × List ℕ)) → Rising k rs → least_of (tell_all rs) ≡ by_rules rs fault.None
+pub by_rules_lem : (k : ℕ) (rs : List (ℕ × List ℕ)) → Rising k rs → least_of (tell_all rs) ≡ by_rules rs None
 unfolding tell_all
 by_rules_lem k [] g = unfold least_of in refl
 by_rules_lem k (r ∷ rs) g =

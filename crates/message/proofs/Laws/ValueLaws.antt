@@ -1,10 +1,8 @@
 -- What tests of values say. Assumes nothing.
-use Rattle.std.specs.Prelude.{ℕ, ◌+◌, ◌*◌, ◌≤◌, min, ◌≡◌, refl, List, [], ◌∷◌, Bool, true, false, eqb, ltb}
+use Rattle.std.specs.Prelude.{ℕ, ◌+◌, ◌*◌, ◌≤◌, min, ◌≡◌, refl, List, [], ◌∷◌, Bool, true, false, eqb, ltb, Option, None, Some}
 use Rattle.std.proofs.Common.{arith, sym, ◌∙◌, eq-eqb, ne_eqb}
 use Rattle.std.proofs.Math.Decide.{ℕ_discrete}
 use Rattle.service.specs.Tests.{if, is_empty}
-use Rattle.values.specs.declared.Number.{Number}
-use Rattle.values.specs.declared.Number.TheVariants as number
 use Rattle.values.specs.Forms.Codes.{EMPTY}
 use Rattle.values.specs.Forms.Values.{code_from, code_of, number_of, is_number}
 use Rattle.values.specs.Laws.NumberLaws.{number_of_lem}
@@ -33,13 +31,13 @@ empty_code (b ∷ l) = ne_eqb (code_of (b ∷ l)) EMPTY (go (ltb b 256))
     go false e = omega arith
 
 -- ---- numbers: none that a value writes reaches the end of 64 bits, so a count may stop there
-is_capped : (l : List ℕ) (k : Number) → number_of l ≡ k → (n : ℕ) → is_number k (min n most) ≡ is_number k n
-is_capped l (number.Of x) e n = go (ℕ_discrete x n)
+is_capped : (l : List ℕ) (k : Option ℕ) → number_of l ≡ k → (n : ℕ) → is_number k (min n most) ≡ is_number k n
+is_capped l (Some x) e n = go (ℕ_discrete x n)
   where
     go : Dec (x ≡ n) → eqb x (min n most) ≡ eqb x n
     go (yes q) = let w = (number_of_lem l x e).1 in eq-eqb x (min n most) (omega arith) ∙ sym (eq-eqb x n q)
     go (no q) = let w = (number_of_lem l x e).1 in ne_eqb x (min n most) (λ p. q (omega arith)) ∙ sym (ne_eqb x n q)
-is_capped l number.Not e n = refl
+is_capped l None e n = refl
 
 pub writes_capped : (l : List ℕ) (n : ℕ) → writes l (min n most) ≡ writes l n
 writes_capped l n = is_capped l (number_of l) refl n

@@ -9,7 +9,7 @@ use Rattle.std.proofs.Math.Seq.{drop-nil}
 use Rattle.service.specs.declared.Service.{Service}
 use Rattle.segments.specs.declared.Class.{Class}
 use Rattle.segments.specs.declared.Class.TheVariants.{Plain, Comp, Elem, Rel, Term}
-use Rattle.segments.specs.declared.End.TheVariants.{At}
+use Rattle.std.specs.Prelude.{Some}
 use Rattle.segments.specs.Classes.{class_of}
 use Rattle.segments.specs.Forms.Bytes.{end_by, end_from}
 use Rattle.segments.specs.Laws.PartLaws.{end_low}
@@ -19,15 +19,15 @@ use Rattle.parts.specs.Forms.Lex.{elem_at}
 -- ---- the bytes from a segment's first to its terminator
 module _ (v : Service) where
   -- one byte further
-  on : (r q : Bool) (i b : ℕ) (l : List ℕ) (t : ℕ) (f : List Tok → List Tok) → end_from v q (suc i) l ≡ At t → ((u : List ℕ) → lex v r (b ∷ u) ≡ f (lex v q u))
+  on : (r q : Bool) (i b : ℕ) (l : List ℕ) (t : ℕ) (f : List Tok → List Tok) → end_from v q (suc i) l ≡ Some t → ((u : List ℕ) → lex v r (b ∷ u) ≡ f (lex v q u))
       → lex v q (take (t - suc i) l) ≡ lex v q l → lex v r (take (t - i) (b ∷ l)) ≡ f (lex v q l)
   on r q i b l t f e g ih =
       let h = end_low v q (suc i) l t e in
       let n : t - i ≡ suc (t - suc i) = omega arith in
       rw n (g (take (t - suc i) l) ∙ ap f ih)
 
-  extent_by_lem : (i b : ℕ) (l : List ℕ) (t : ℕ) → ((q : Bool) → end_from v q (suc i) l ≡ At t → lex v q (take (t - suc i) l) ≡ lex v q l) → (k : Class) → k ≡ class_of v b
-      → end_by k i (end_from v true (suc i) l) (end_from v false (suc i) l) ≡ At t → lex v false (take (t - i) (b ∷ l)) ≡ lex_by k b (lex v true l) (lex v false l)
+  extent_by_lem : (i b : ℕ) (l : List ℕ) (t : ℕ) → ((q : Bool) → end_from v q (suc i) l ≡ Some t → lex v q (take (t - suc i) l) ≡ lex v q l) → (k : Class) → k ≡ class_of v b
+      → end_by k i (end_from v true (suc i) l) (end_from v false (suc i) l) ≡ Some t → lex v false (take (t - i) (b ∷ l)) ≡ lex_by k b (lex v true l) (lex v false l)
   unfolding lex
   extent_by_lem i b l t ih Plain c e = on false false i b l t (λ (u : List Tok). byte b ∷ u) e (λ (u : List ℕ). rw (← c)) (ih false e)
   extent_by_lem i b l t ih Comp c e = on false false i b l t (λ (u : List Tok). comp ∷ u) e (λ (u : List ℕ). rw (← c)) (ih false e)
@@ -35,7 +35,7 @@ module _ (v : Service) where
   extent_by_lem i b l t ih Rel c e = on false true i b l t (λ (u : List Tok). u) e (λ (u : List ℕ). rw (← c)) (ih true e)
   extent_by_lem i b l t ih Term c e = let q : t - i ≡ 0 = let w : i ≡ t = cc in omega arith in rw q
 
-  pub lex_extent : (r : Bool) (i : ℕ) (l : List ℕ) (t : ℕ) → end_from v r i l ≡ At t → lex v r (take (t - i) l) ≡ lex v r l
+  pub lex_extent : (r : Bool) (i : ℕ) (l : List ℕ) (t : ℕ) → end_from v r i l ≡ Some t → lex v r (take (t - i) l) ≡ lex v r l
   unfolding lex end_from
   lex_extent r i [] t e = absurd (let z : ◌≡◌ {A = ℕ} 0 1 = cc in omega arith)
   lex_extent true i (b ∷ l) t e = on true false i b l t (λ (u : List Tok). byte b ∷ u) e (λ (u : List ℕ). refl) (lex_extent false (suc i) l t e)

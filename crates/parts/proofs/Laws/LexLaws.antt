@@ -4,7 +4,7 @@ use Rattle.std.proofs.Math.Numerals.{add-one}
 use Rattle.std.proofs.Math.Decide.{dec_lt}
 use native.Mathlib.Omega.{arith}
 use Rattle.std.proofs.Math.Path.{sym, ap}
-use Rattle.std.proofs.Common.{◌∙◌, subst, drop_of_length-le}
+use Rattle.std.proofs.Common.{◌∙◌, subst, drop_of_length-le, length-drop}
 use Rattle.std.proofs.Math.Seq.{drop-cons}
 use Rattle.service.specs.declared.Service.{Service}
 use Rattle.segments.specs.declared.Class.{Class}
@@ -95,6 +95,16 @@ module _ (v : Service) (s : List ℕ) (i : ℕ) (k : Token) (c : k ≡ token_at 
   pub reads_stop : k ≡ token.Stop → Reads v s i token.Stop
   reads_stop e = rw e at (token_reads v s i k c)
 
+  -- and a reader of tokens gives the first of those left
+  pub next_byte : (b n : ℕ) → k ≡ token.Byte b n → lex v false (drop i s) ≡ byte b ∷ lex v false (drop n s)
+  next_byte b n e = (reads_byte b n e).0
+
+  pub next_comp : (n : ℕ) → k ≡ token.Comp n → lex v false (drop i s) ≡ comp ∷ lex v false (drop n s)
+  next_comp n e = (reads_comp n e).0
+
+  pub next_elem : (n : ℕ) → k ≡ token.Elem n → lex v false (drop i s) ≡ elem ∷ lex v false (drop n s)
+  next_elem n e = (reads_elem n e).0
+
   pub less_byte : (b n : ℕ) → k ≡ token.Byte b n → length s - n < length s - i
   less_byte b n e = let w = reads_byte b n e in omega arith
 
@@ -103,6 +113,23 @@ module _ (v : Service) (s : List ℕ) (i : ℕ) (k : Token) (c : k ≡ token_at 
 
   pub less_elem : (n : ℕ) → k ≡ token.Elem n → length s - n < length s - i
   less_elem n e = let w = reads_elem n e in omega arith
+
+-- ---- the tokens are no more than the bytes
+short_by : (b : ℕ) (rel on : List Tok) (n : ℕ) → length rel ≤ n → length on ≤ n → (k : Class) → length (lex_by k b rel on) ≤ suc n
+short_by b rel on n h g Plain = omega arith
+short_by b rel on n h g Comp = omega arith
+short_by b rel on n h g Elem = omega arith
+short_by b rel on n h g Rel = omega arith
+short_by b rel on n h g Term = omega arith
+
+short : (v : Service) (r : Bool) (l : List ℕ) → length (lex v r l) ≤ length l
+unfolding lex
+short v r [] = omega arith
+short v true (b ∷ l) = let w = short v false l in omega arith
+short v false (b ∷ l) = short_by b (lex v true l) (lex v false l) (length l) (short v true l) (short v false l) (class_of v b)
+
+pub tokens_short : (v : Service) (s : List ℕ) (i : ℕ) → length (lex v false (drop i s)) ≤ length s
+tokens_short v s i = let w = short v false (drop i s) in let d = length-drop i s in omega arith
 
 -- ---- a loop to an element
 skip_byte : (left b : ℕ) (t : List Tok) → 0 < left → elem_at left (byte b ∷ t) ≡ elem_at left t

@@ -11,7 +11,7 @@ use Rattle.service.specs.Service.{within, Fits}
 use Rattle.service.specs.Tests.{is_empty}
 use Rattle.segments.specs.declared.Class.{Class}
 use Rattle.segments.specs.declared.Class.TheVariants.{Plain, Comp, Elem, Rel, Term}
-use Rattle.segments.specs.declared.End.TheVariants.{At, None}
+use Rattle.std.specs.Prelude.{Some, None}
 use Rattle.segments.specs.Classes.{class_of}
 use Rattle.segments.specs.Forms.Bytes.{end_by, end_from}
 use Rattle.segments.specs.Laws.PartLaws.{end_low}
@@ -72,7 +72,7 @@ module _ (v : Service) (f : Fits v) where
   usual_rel b c = usual b Rel c (λ (q : Plain ≡ Rel). let z : ◌≡◌ {A = ℕ} 0 1 = cc in omega arith)
 
   -- one byte further
-  on : (r : Bool) (i b : ℕ) (l : List ℕ) (t : ℕ) (u : List ℕ) → end_from v r (suc i) l ≡ At t → strange_places (suc i) (take (t - suc i) l) ≡ u
+  on : (r : Bool) (i b : ℕ) (l : List ℕ) (t : ℕ) (u : List ℕ) → end_from v r (suc i) l ≡ Some t → strange_places (suc i) (take (t - suc i) l) ≡ u
       → strange_places i (take (t - i) (b ∷ l)) ≡ keep (is_strange b) i u
   unfolding strange_places
   on r i b l t u e ih =
@@ -81,8 +81,8 @@ module _ (v : Service) (f : Fits v) where
       rw n (ap (keep (is_strange b) i) ih)
 
   places_next : (i b : ℕ) (l : List ℕ) (t : ℕ)
-      → ((q : Bool) → end_from v q (suc i) l ≡ At t → strange_places (suc i) (take (t - suc i) l) ≡ strange_from v q (suc i) l) → (k : Class) → k ≡ class_of v b
-      → end_by k i (end_from v true (suc i) l) (end_from v false (suc i) l) ≡ At t
+      → ((q : Bool) → end_from v q (suc i) l ≡ Some t → strange_places (suc i) (take (t - suc i) l) ≡ strange_from v q (suc i) l) → (k : Class) → k ≡ class_of v b
+      → end_by k i (end_from v true (suc i) l) (end_from v false (suc i) l) ≡ Some t
       → strange_places i (take (t - i) (b ∷ l)) ≡ strange_by k (keep (is_strange b) i (strange_from v false (suc i) l)) (strange_from v true (suc i) l) (strange_from v false (suc i) l)
   unfolding strange_places
   places_next i b l t ih Plain c e = on false i b l t (strange_from v false (suc i) l) e (ih false e)
@@ -92,7 +92,7 @@ module _ (v : Service) (f : Fits v) where
   places_next i b l t ih Term c e = let q : t - i ≡ 0 = let w : i ≡ t = cc in omega arith in rw q
 
   -- in a segment that ends at t, the bytes that a value may not have are value bytes: looking at all bytes finds the same places
-  pub strange_places_lem : (r : Bool) (i : ℕ) (l : List ℕ) (t : ℕ) → end_from v r i l ≡ At t → strange_places i (take (t - i) l) ≡ strange_from v r i l
+  pub strange_places_lem : (r : Bool) (i : ℕ) (l : List ℕ) (t : ℕ) → end_from v r i l ≡ Some t → strange_places i (take (t - i) l) ≡ strange_from v r i l
   unfolding end_from strange_from strange_places
   strange_places_lem r i [] t e = absurd (let z : ◌≡◌ {A = ℕ} 0 1 = cc in omega arith)
   strange_places_lem true i (b ∷ l) t e = on false i b l t (strange_from v false (suc i) l) e (strange_places_lem false (suc i) l t e)

@@ -2,7 +2,8 @@
 use Rattle.std.specs.Prelude.{ℕ, suc, zero, ◌≡◌, refl, List, [], ◌∷◌, map, false, get_or, drop}
 use Rattle.std.proofs.Common.{sym, ◌∙◌, ap, ap₂}
 use Rattle.service.specs.declared.Service.{Service}
-use Rattle.segments.specs.SegmentList.{Piece, finished, unfinished}
+use Rattle.segments.specs.declared.Piece.{Piece}
+use Rattle.segments.specs.declared.Piece.TheVariants.{Finished as finished, Unfinished as unfinished}
 use Rattle.parts.specs.Parts.{lex, elements, value_at}
 use Rattle.parts.specs.Trimmed.{ahead, trim, Values, trimmed, values_in}
 

@@ -1,53 +1,88 @@
 -- The program's steps by these lines. Assumes nothing.
-use Rattle.std.specs.Prelude.{ℕ, ◌+◌, ◌≤◌, ◌<◌, ◌≡◌, List, [], ◌++◌, length, take, None, Some, Ok, Err, OnOk, IfSome}
+use Rattle.std.specs.Prelude.{ℕ, ◌+◌, ◌-◌, ◌^◌, ◌≤◌, ◌<◌, ◌≡◌, refl, List, [], ◌++◌, length, take, None, Some, Ok, Err, OnOk, IfSome}
+use Rattle.std.specs.Option.{unwrap_or}
 use Rattle.std.specs.Result.{result_and}
+use Rattle.std.specs.Fn.{Once, FnOnceReturnsAtMut}
 use Rattle.std.specs.Io.KnownBytes.{Appends, Consumes, IsAtEnd}
 use Rattle.std.specs.declared.result.Result.{Result}
 use Rattle.std.specs.declared.option.Option.{Option}
 use Rattle.std.proofs.Math.Decide.{dec_lt}
-use Rattle.std.proofs.Common.{arith, sym, ap, ◌∙◌, subst, append_assoc, append-nil, length-append, length-take-le}
-use Rattle.service.specs.declared.Service.{Service}
+use Rattle.std.specs.Int.{w64}
+use Rattle.std.proofs.Common.{MutBor, Fits, arith, sym, ap, ◌∙◌, subst, append_assoc, append-nil, length-append, length-take-le}
 use Rattle.interchange.specs.declared.Refusal.{Refusal}
-use Rattle.interchange.specs.declared.Opening.{Opening}
-use Rattle.interchange.specs.declared.Opening.TheVariants as opening
-use Rattle.interchange.specs.Opened.{OpenedAs}
-use Rattle.interchange.specs.declared.Closing.{Closing}
-use Rattle.interchange.specs.Closed.{ClosedAs}
-use Rattle.lent.specs.Lists.{lists}
+use Rattle.interchange.specs.declared.Closing as code
+use Rattle.interchange.specs.Answers.{Closing}
+use Rattle.interchange.specs.Answers as opening
+use Rattle.numbers.specs.Table.{table_number, number_told}
+use Rattle.interchange.specs.Opened.{OpenedAs, accepted, refused}
+use Rattle.interchange.specs.Closed.{ClosedAs, unopened as unopened_so, closes}
+use Rattle.lent.specs.declared.Lists.{Lists as Lent}
+use Rattle.lent.specs.Lent.{lent}
 use Rattle.lines.specs.Lines.{message_line, end_line, open_line, Lined}
-use Rattle.lines.specs.Laws.LinesLaws.{held_is}
-use Rattle.report.specs.declared.Report.{Report}
-use Rattle.walk.specs.declared.Walked.{Walked}
-use Rattle.walk.specs.declared.Walked.TheVariants as walked
+use Rattle.lines.specs.Laws.LinesLaws.{held_within, held_is}
+use Rattle.walk.specs.declared.Walked as step
+use Rattle.walk.specs.Steps.{Walked}
 use Rattle.walk.specs.Frame.{message, step_from}
-use Rattle.walk.specs.Laws.PlaceLaws.{walk_count, walk_add}
-use Rattle.walk.specs.Walks.{Walks, walks_nothing, walks_refused}
-use Rattle.payreport.specs.Printed.{accepts, Opened, Judged, judged, Visited, start, next, AcceptedOf, LineOf, unopened, told, Told, told_none, told_more, Tells, ReportOf, unopened_alone, long_alone, messages_end, Reported}
+use Rattle.walk.specs.Laws.PlaceLaws.{walk_less, walk_count, walk_count_fits, walk_add, walk_add_fits}
+use Rattle.walk.specs.Walks.{Walks, walks_message, walks_nothing, walks_refused}
+use Rattle.payreport.specs.Printed.{accepts, Opened, WalksAt, Judged, judged, Visited, start, next, AcceptedOf, LineOf, MakesLine, TookLine, unopened, told, end, Told, told_none, told_more, Tells, ReportOf, unopened_alone, long_alone, messages_end, Reported}
 
 -- ---- opening
-module _ (s : List ℕ) (o : Opening) (q : OpenedAs s o) (h : length s ≤ 32768) where
-  pub opened_so : (v : Service) (first : ℕ) → o ≡ opening.Opens v first → Opened s
-  opened_so v first e = record { characters = v; first = first; short = h; opens = subst (OpenedAs s) e q }
+-- what closing tells of it
+abbrev Shut : List ℕ → Closing → Type 0
+Shut s (Ok c) = length s ≤ 32768 → Opened s
+Shut s (Err f) = OpenedAs s (opening.Refused f)
 
-  pub unopened_line : (f : Refusal) → o ≡ opening.Refused f → LineOf s (open_line f.number)
-  unopened_line f e = unopened f h (subst (OpenedAs s) e q)
+shut : (s : List ℕ) {o : Closing} → ClosedAs s o → Shut s o
+shut s (unopened_so n l) = refused n l
+shut s (closes v first n o l) = λ h. record { characters = v; first = first; short = h; opens = accepted v first o }
 
-  pub unopened_report : (f : Refusal) → o ≡ opening.Refused f → ReportOf s (open_line f.number)
-  unopened_report f e = unopened_alone f h (subst (OpenedAs s) e q)
+module _ (s : List ℕ) (o : Closing) (q : ClosedAs s o) (h : length s ≤ 32768) where
+  module _ (c : code.Closing) (e : o ≡ Ok c) where
+    pub opened_so : Opened s
+    opened_so = subst (Shut s) e (shut s q) h
 
--- ---- a line held in the room
-pub held_line : (s l o new : List ℕ) (k : ℕ) → Lined l o new k → length l ≤ 128 → 128 ≡ length o → LineOf s l → LineOf s (take k new)
-held_line s l o new k w h e p = subst (LineOf s) (sym (held_is l o new k w h e)) p
+    pub closed_so : ClosedAs s (Ok c)
+    closed_so = subst (ClosedAs s) e q
 
--- and what a writer took of it
-pub held_written : {T E : Type 0} (r : Result T E) (u v : Option (List ℕ)) (l o new : List ℕ) (k : ℕ) → Lined l o new k → length l ≤ 128 → 128 ≡ length o
-    → OnOk r (Appends u v (take k new)) → OnOk r (Appends u v l)
-held_written r u v l o new k w h e p = subst (λ (x : List ℕ). OnOk r (Appends u v x)) (held_is l o new k w h e) p
+    pub end_so : (k : ℕ) → AcceptedOf s k → LineOf s (end_line c.messages k c.strays (number_told c.fault))
+    end_so k a = end k c opened_so a closed_so
 
-pub end_written : {T E : Type 0} (s : List ℕ) (k : ℕ) (r : Result T E) (u v : Option (List ℕ)) (c : Closing) → ClosedAs s c → OnOk r (Appends u v (end_line c.messages k c.strays c.number))
-    → OnOk r ((c : Closing) × ClosedAs s c × Appends u v (end_line c.messages k c.strays c.number))
-end_written s k (Ok x) u v c q p = (c, q, p)
-end_written s k (Err x) u v c q p = tt
+  module _ (f : Refusal) (e : o ≡ Err f) where
+    unopened_as : OpenedAs s (opening.Refused f)
+    unopened_as = subst (Shut s) e (shut s q)
+
+    pub unopened_line : LineOf s (open_line (table_number f.number))
+    unopened_line = unopened f h unopened_as
+
+    pub unopened_report : ReportOf s (open_line (table_number f.number))
+    unopened_report = unopened_alone f h unopened_as
+
+-- ---- a line made in a room of 128 bytes
+-- a call that puts the line l over the front of such a room
+abbrev pub Puts : List ℕ → (List ℕ → ℕ → List ℕ → Type 0) → Type 0
+Puts l made = (old : List ℕ) (n : ℕ) (new : List ℕ) → made old n new → Lined l old new n × (length l ≤ 128)
+
+pub puts_line : (s l : List ℕ) (made : List ℕ → ℕ → List ℕ → Type 0) → Puts l made → LineOf s l → MakesLine s made
+puts_line s l made p h old n new e m =
+    let w = p old n new m in
+    (held_within l old new n w.0 w.1 (sym e), subst (LineOf s) (sym (held_is l old new n w.0 w.1 (sym e))) h)
+
+pub took_made : {T E : Type 0} (r : Result T E) (u v : Option (List ℕ)) (made : List ℕ → ℕ → List ℕ → Type 0) (old : List ℕ) (n : ℕ) (new : List ℕ) → length old ≡ 128 → made old n new
+    → OnOk r (Appends u v (take n new)) → OnOk r (TookLine made u v)
+took_made (Ok x) u v made old n new e m p = record { old = old; answer = n; new = new; room = e; by = m; written = p }
+took_made (Err x) u v made old n new e m p = tt
+
+pub took_line : {T E : Type 0} (r : Result T E) (u v : Option (List ℕ)) (l : List ℕ) (made : List ℕ → ℕ → List ℕ → Type 0) → Puts l made → OnOk r (TookLine made u v) → OnOk r (Appends u v l)
+took_line (Ok x) u v l made p w =
+    let i = p w.old w.answer w.new w.by in
+    subst (Appends u v) (held_is l w.old w.new w.answer i.0 i.1 (sym w.room)) w.written
+took_line (Err x) u v l made p w = tt
+
+-- what a call gave at the room that it was handed
+pub at_call : {F T R : Type 0} (g : Once F (MutBor T × Unit {0}) (R × (MutBor T × Unit {0}))) (f : F) (shown left : MutBor T) (r : R) → g.post f (shown, tt) (r, (left, tt))
+    → FnOnceReturnsAtMut g f shown.now r left.now
+at_call g f shown left r p = record { shown = shown; shows = refl; left = left; met = p; leaves = refl }
 
 -- ---- lines one behind the other
 appends_none : (u : Option (List ℕ)) → Appends u u []
@@ -70,71 +105,77 @@ pub tell_first : (s : List ℕ) (u : Option (List ℕ)) → Telling s 0 0 0 u u
 tell_first s u = record { lines = []; told = told_none; written = appends_none u }
 
 -- ---- one message more
--- the walk stands at a position, with these lists lent
-pub record Standing (s : List ℕ) (at n k : ℕ) (r y t : List ℕ) : Type 0 where
+-- the walk stands at a position
+pub record Standing (s : List ℕ) (at n k : ℕ) : Type 0 where
   pub opened : Opened s
   pub visited : Visited s at n k
   pub messages : n ≤ at
   pub accepted : k ≤ at
-  pub rows : length r ≡ 2000
-  pub starts : length y ≡ 2000
-  pub totals : length t ≡ 400
 
-pub stand_first : (s r y t : List ℕ) → Opened s → length r ≡ 2000 → length y ≡ 2000 → length t ≡ 400 → Standing s 0 0 0 r y t
-stand_first s r y t o f g h = record { opened = o; visited = start; messages = omega arith; accepted = omega arith; rows = f; starts = g; totals = h }
+pub stand_first : (s : List ℕ) → Opened s → Standing s 0 0 0
+stand_first s o = record { opened = o; visited = start; messages = omega arith; accepted = omega arith }
 
-module _ (s : List ℕ) (at n k : ℕ) (r y t : List ℕ) (x : Standing s at n k r y t) (r' y' t' : List ℕ) (w : Walked) (p : Walks s at (lists r y t) (lists r' y' t') w) where
-  module _ (a e : ℕ) (z : Report) (q : w ≡ walked.Message a e z) where
-    found : Judged s at e z
-    found = judged a (lists r y t) (lists r' y' t') x.rows x.starts x.totals (subst (Walks s at (lists r y t) (lists r' y' t')) q p)
+pub walks_at : (s : List ℕ) (at : ℕ) (x y : Lent) (w : Walked) → length x.rows.now ≡ 2000 → length x.starts.now ≡ 2000 → length x.totals.now ≡ 400 → Walks s at (lent x) (lent y) w → WalksAt s at w
+walks_at s at x y w f g h p = record { lent = lent x; left = lent y; rows = f; starts = g; totals = h; walked = p }
 
-    pub told_line : LineOf s (message_line (n + 1) z)
-    told_line = told at n k e z x.opened x.visited found
+module _ (s : List ℕ) (at n k : ℕ) (x : Standing s at n k) (w : Walked) (p : WalksAt s at w) where
+  module _ (o : Option step.Walked) (h : w ≡ Ok o) (m : step.Walked) (i : o ≡ Some m) where
+    q : w ≡ Ok (Some m)
+    q = h ∙ ap Ok i
 
-    pub told_next : (d : ℕ) → d ≡ accepts z → d ≤ 1 → length r' ≡ length r → length y' ≡ length y → length t' ≡ length t → Standing s e (n + 1) (k + d) r' y' t'
-    told_next d c b f g h = record {
+    found : Judged s at m.end m.report
+    found = judged m.start p.lent p.left p.rows p.starts p.totals (subst (Walks s at p.lent p.left) q p.walked)
+
+    -- the loop ends, and its counts fit
+    pub goes_on : length s - m.end < length s - at
+    goes_on = walk_less s at p.lent p.left w p.walked m.start m.end m.report q
+
+    pub place_fits : length s < 2 ^ 64 → Fits w64 (n + 1)
+    place_fits f = walk_count_fits s at p.lent p.left w p.walked m.start m.end m.report q n x.messages f
+
+    pub accepted_fits : (d : ℕ) → d ≤ 1 → length s < 2 ^ 64 → Fits w64 (k + d)
+    accepted_fits d b f = walk_add_fits s at p.lent p.left w p.walked m.start m.end m.report q k d x.accepted b f
+
+    pub told_line : LineOf s (message_line (n + 1) m.report)
+    told_line = told at n k m.end m.report x.opened x.visited found
+
+    pub told_next : (d : ℕ) → d ≡ accepts m.report → d ≤ 1 → Standing s m.end (n + 1) (k + d)
+    told_next d c b = record {
       opened = x.opened;
-      visited = subst (λ (m : ℕ). Visited s e (n + 1) (k + m)) (sym c) (next at n k e z x.visited found);
-      messages = walk_count s at (lists r y t) (lists r' y' t') w p a e z q n x.messages;
-      accepted = walk_add s at (lists r y t) (lists r' y' t') w p a e z q k d x.accepted b;
-      rows = f ∙ x.rows;
-      starts = g ∙ x.starts;
-      totals = h ∙ x.totals;
+      visited = subst (λ (i : ℕ). Visited s m.end (n + 1) (k + i)) (sym c) (next at n k m.end m.report x.visited found);
+      messages = walk_count s at p.lent p.left w p.walked m.start m.end m.report q n x.messages;
+      accepted = walk_add s at p.lent p.left w p.walked m.start m.end m.report q k d x.accepted b;
     }
 
-  pub none_left : w ≡ walked.Nothing → AcceptedOf s k
-  none_left q = record { at = at; messages = n; visited = x.visited; last = stays (subst (Walks s at (lists r y t) (lists r' y' t')) q p) }
+  pub none_left : ((m : step.Walked) → w ≡ Ok (Some m) → ⊥) → AcceptedOf s k
+  none_left h = record { at = at; messages = n; visited = x.visited; last = stays w p.walked h }
     where
-      stays : Walks s at (lists r y t) (lists r' y' t') walked.Nothing → (a e : ℕ) → message a e ≡ step_from s at → ⊥
-      stays (walks_nothing u _) a e m = let z : ◌≡◌ {A = ℕ} 0 1 = cc in omega arith
-
-  pub none_more : (f : Refusal) → w ≡ walked.Refused f → AcceptedOf s k
-  none_more f q = record { at = at; messages = n; visited = x.visited; last = stays (subst (Walks s at (lists r y t) (lists r' y' t')) q p) }
-    where
-      stays : Walks s at (lists r y t) (lists r' y' t') (walked.Refused f) → (a e : ℕ) → message a e ≡ step_from s at → ⊥
-      stays (walks_refused g u _) a e m = let z : ◌≡◌ {A = ℕ} 0 1 = cc in omega arith
+      stays : (o : Walked) → Walks s at p.lent p.left o → ((m : step.Walked) → o ≡ Ok (Some m) → ⊥) → (a e : ℕ) → message a e ≡ step_from s at → ⊥
+      stays o (walks_message v una b c z i u j) g a e m = g (record { start = b; end = c; report = z }) refl
+      stays o (walks_nothing u _) g a e m = let z : ◌≡◌ {A = ℕ} 0 1 = cc in omega arith
+      stays o (walks_refused f u _) g a e m = let z : ◌≡◌ {A = ℕ} 0 1 = cc in omega arith
 
   -- the lines so far, if each was written, and one more, if it was
-  pub tell_next : {E : Type 0} (u v : Option (List ℕ)) (o : Result (Unit {0}) E) → OnOk o (Telling s at n k u v) → (a e : ℕ) (m : Report) → w ≡ walked.Message a e m → (v' : Option (List ℕ)) (r : Result (Unit {0}) E)
-      → OnOk r (Appends v v' (message_line (n + 1) m)) → (o' : Result (Unit {0}) E) → o' ≡ result_and o r → (d : ℕ) → d ≡ accepts m → OnOk o' (Telling s e (n + 1) (k + d) u v')
-  tell_next u v (Err f) z a e m q v' r g o' i d c = rw i tt
-  tell_next u v (Ok x) z a e m q v' (Err f) g o' i d c = rw i tt
-  tell_next u v (Ok x) z a e m q v' (Ok y) g o' i d c =
+  pub tell_next : {E : Type 0} (u v : Option (List ℕ)) (o : Result (Unit {0}) E) → OnOk o (Telling s at n k u v) → (a : Option step.Walked) → w ≡ Ok a → (m : step.Walked) → a ≡ Some m → (v' : Option (List ℕ)) (r : Result (Unit {0}) E)
+      → OnOk r (Appends v v' (message_line (n + 1) m.report)) → (o' : Result (Unit {0}) E) → o' ≡ result_and o r → (d : ℕ) → d ≡ accepts m.report → OnOk o' (Telling s m.end (n + 1) (k + d) u v')
+  tell_next u v (Err f) z a q m h v' r g o' i d c = rw i tt
+  tell_next u v (Ok x) z a q m h v' (Err f) g o' i d c = rw i tt
+  tell_next u v (Ok x) z a q m h v' (Ok y) g o' i d c =
       rw i
       record {
-        lines = z.lines ++ message_line (n + 1) m;
-        told = subst (λ (j : ℕ). Told s e (n + 1) (k + j) (z.lines ++ message_line (n + 1) m)) (sym c) (told_more at n k e m z.lines z.told (found a e m q));
-        written = appends_then u v v' z.lines (message_line (n + 1) m) z.written g;
+        lines = z.lines ++ message_line (n + 1) m.report;
+        told = subst (λ (j : ℕ). Told s m.end (n + 1) (k + j) (z.lines ++ message_line (n + 1) m.report)) (sym c) (told_more at n k m.end m.report z.lines z.told (found a q m h));
+        written = appends_then u v v' z.lines (message_line (n + 1) m.report) z.written g;
       }
 
 -- ---- the whole report
-module _ {E : Type 0} (s : List ℕ) (k : ℕ) (u v w : Option (List ℕ)) (p : Opened s) where
-  pub reported_end : (o r o' : Result (Unit {0}) E) → OnOk o (Tells s k u v) → OnOk r ((c : Closing) × ClosedAs s c × Appends v w (end_line c.messages k c.strays c.number)) → o' ≡ result_and o r → OnOk o' (Reported s u w)
+module _ {E : Type 0} (s : List ℕ) (k : ℕ) (u v w : Option (List ℕ)) (p : Opened s) (c : code.Closing) (q : ClosedAs s (Ok c)) where
+  pub reported_end : (o r o' : Result (Unit {0}) E) → OnOk o (Tells s k u v) → OnOk r (Appends v w (end_line c.messages k c.strays (number_told c.fault))) → o' ≡ result_and o r → OnOk o' (Reported s u w)
   reported_end (Err f) r o' z g i = rw i tt
   reported_end (Ok x) (Err f) o' z g i = rw i tt
-  reported_end (Ok x) (Ok y) o' z (c, q, g) i =
+  reported_end (Ok x) (Ok y) o' z g i =
       rw i
-      record { lines = z.lines ++ end_line c.messages k c.strays c.number; report = messages_end k z.lines c p z.all q; written = appends_then u v w z.lines (end_line c.messages k c.strays c.number) z.written g }
+      record { lines = z.lines ++ end_line c.messages k c.strays (number_told c.fault); report = messages_end k z.lines c p z.all q; written = appends_then u v w z.lines (end_line c.messages k c.strays (number_told c.fault)) z.written g }
 
 module _ {T E : Type 0} (s l : List ℕ) (u v : Option (List ℕ)) (q : ReportOf s l) where
   pub reported_alone : (r : Result T E) → OnOk r (Appends u v l) → OnOk r (Reported s u v)

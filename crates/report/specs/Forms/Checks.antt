@@ -1,5 +1,7 @@
 -- What the parts of a check answer.
-use Rattle.std.specs.Prelude.{ℕ, zero, suc, ◌+◌, ◌%◌, ◌≡◌, List, Bool, false, ◌&&◌, ◌||◌, length, eqb, leb, ltb}
+use Rattle.std.specs.Prelude.{ℕ, zero, suc, ◌+◌, ◌%◌, ◌≡◌, List, Bool, false, ◌&&◌, ◌||◌, length, eqb, leb, ltb, Option, None, Some, Result, Ok, Err, ⊤}
+use Rattle.numbers.specs.declared.Number.{Number}
+use Rattle.numbers.specs.declared.Number.TheVariants as numbers
 use Rattle.service.specs.declared.Service.{Service}
 use Rattle.service.specs.Service.{fitting}
 use Rattle.service.specs.Tests.{if}
@@ -8,15 +10,12 @@ use Rattle.segments.specs.declared.Segment.TheVariants.{Finished, Unfinished, No
 use Rattle.segments.specs.Forms.Segments.{segment_at}
 use Rattle.segments.specs.SegmentList.{segments_from, start_at}
 use Rattle.values.specs.Numbers.{value_from, value_in}
-use Rattle.faults.specs.declared.First.{First}
-use Rattle.faults.specs.declared.First.TheVariants as first
-use Rattle.faults.specs.declared.Fault.{Fault}
-use Rattle.faults.specs.declared.Fault.TheVariants as fault
+use Rattle.faults.specs.Firsts.{Told, fault_at}
 use Rattle.tally.specs.Places.{passed}
 use Rattle.interchange.specs.declared.Refusal.{Refusal}
+use Rattle.interchange.specs.Answers.{refusal}
 use Rattle.interchange.specs.Envelope.{is_reference}
 use Rattle.chart.specs.Chart.{Reading}
-use Rattle.chart.specs.Table.{Table}
 use Rattle.chart.specs.Tags.{tags_of}
 use Rattle.chart.specs.Answer.{StuckAt}
 use Rattle.chart.specs.Forms.Next.{rows_of}
@@ -34,9 +33,9 @@ ends_by n (Finished e k) = eqb (e + 1) n
 ends_by n Unfinished = false
 ends_by n Nothing = false
 
-abbrev pub ends_with : Service → List ℕ → First → Bool
-ends_with v m first.None = false
-ends_with v m (first.At p) = ends_by (length m) (segment_at v p m)
+abbrev pub ends_with : Service → List ℕ → Option ℕ → Bool
+ends_with v m None = false
+ends_with v m (Some p) = ends_by (length m) (segment_at v p m)
 
 -- the kind whose type the UNH names; PAYMUL where it names none (`kind_is` of KindLaws: the one that the message is of, if it is of one)
 abbrev pub kind_at : Service → List ℕ → Kind
@@ -50,36 +49,29 @@ abbrev pub headed_at : Service → List ℕ → Bool
 headed_at v m = typed v m (says (value_from v 0 m) "UNH" && is_reference (length (value_in v 0 m 1 0)))
 
 -- 1 and 2
-abbrev pub outright : Bool → Bool → ℕ
-outright short fit = if short (if fit 0 2) 1
+abbrev pub outright : Bool → Bool → Result ⊤ Refusal
+outright short fit = if short (if fit (Ok tt) (Err (refusal numbers.Characters))) (Err (refusal numbers.TooLong))
 
--- neither applies, and the message is read as one of the kind c, with its table t
-pub record Begun (c : Kind) (t : Table) (v : Service) (m : List ℕ) : Type 0 where
-  pub ready : 0 ≡ outright (leb (length m) 1048576) (fitting v)
+-- neither applies, and the message is read as one of the kind c
+pub record Begun (c : Kind) (v : Service) (m : List ℕ) : Type 0 where
+  pub ready : Ok tt ≡ outright (leb (length m) 1048576) (fitting v)
   pub kind : c ≡ kind_at v m
-  pub chart : t ≡ table_of c
 
 -- 11 to 13
-abbrev pub early_fault : Bool → Bool → ℕ → Fault
-early_fault closed headed n = if closed (if headed (if (ltb 9999 n) (fault.At 13 10000) fault.None) (fault.At 12 1)) (fault.At 11 1)
+abbrev pub early_fault : Bool → Bool → ℕ → Option Told
+early_fault closed headed n = if closed (if headed (if (ltb 9999 n) (fault_at 13 10000) None) (fault_at 12 1)) (fault_at 11 1)
 
 -- 16, at the segment that begins at p
-abbrev pub misfit_at : Service → List ℕ → ℕ → Fault
-misfit_at v m p = fault.At 16 (passed (length m) p (segments_from v m 0) % 4294967295 + 1)
+abbrev pub misfit_at : Service → List ℕ → ℕ → Option Told
+misfit_at v m p = fault_at 16 (passed (length m) p (segments_from v m 0) % 4294967295 + 1)
 
 -- what placing on the chart of a kind finds, by number and segment: nothing, or 16
-pub data Misfit (c : Kind) (v : Service) (m : List ℕ) (f : Fault) : Type 0 where
-  nothing : Reading (chart_for c) (tags_of v m) (rows_of (table_of c) (tags_of v m)) → f ≡ fault.None → Misfit c v m f
+pub data Misfit (c : Kind) (v : Service) (m : List ℕ) (f : Option Told) : Type 0 where
+  nothing : Reading (chart_for c) (tags_of v m) (rows_of (table_of c) (tags_of v m)) → f ≡ None → Misfit c v m f
   segment : (p : ℕ) → StuckAt (table_of c) v m p → f ≡ misfit_at v m p → Misfit c v m f
 
--- a message that has begun so, its table aside, and what placing it finds
-pub record Sorted (c : Kind) (v : Service) (m : List ℕ) (f : Fault) : Type 0 where
-  pub ready : 0 ≡ outright (leb (length m) 1048576) (fitting v)
-  pub kind : c ≡ kind_at v m
-  pub misfit : Misfit c v m f
-
 -- 16 to 31, by a kind, in a message of k segments with n LIN tags
-pub data Late (c : Kind) (v : Service) (m : List ℕ) (k n : ℕ) (r : Fault) : Type 0 where
+pub data Late (c : Kind) (v : Service) (m : List ℕ) (k n : ℕ) (r : Option Told) : Type 0 where
   placed : Reading (chart_for c) (tags_of v m) (rows_of (table_of c) (tags_of v m)) → r ≡ least_of (tell_all ((means c).rules k n (placed_on (table_of c) v m))) → Late c v m k n r
   stuck : (p : ℕ) → StuckAt (table_of c) v m p → r ≡ misfit_at v m p → Late c v m k n r
 
@@ -89,7 +81,7 @@ listed_orders c n = if (means c).totals n 0
 
 -- the refusal under 10, for the byte at p
 abbrev pub byte_refusal : Service → List ℕ → ℕ → Refusal
-byte_refusal v m p = record { number = 10; segment = (passed (length m) p (segments_from v m 0) % 4294967295 + 1) % 4294967296; offset = p % 4294967296 }
+byte_refusal v m p = record { number = numbers.Byte; segment = (passed (length m) p (segments_from v m 0) % 4294967295 + 1) % 4294967296; offset = p % 4294967296 }
 
 -- where the kth segment begins
 abbrev pub start_by : Service → List ℕ → ℕ → ℕ
@@ -97,5 +89,5 @@ start_by v m zero = 0
 start_by v m (suc k) = start_at v m k
 
 -- the refusal with the number n, for the kth segment
-abbrev pub refusal_at : Service → List ℕ → ℕ → ℕ → Refusal
+abbrev pub refusal_at : Service → List ℕ → Number → ℕ → Refusal
 refusal_at v m n k = record { number = n; segment = k % 4294967296; offset = start_by v m k % 4294967296 }

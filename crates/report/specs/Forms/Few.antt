@@ -2,8 +2,8 @@
 use Rattle.std.specs.Prelude.{◌≤◌}
 use Rattle.interchange.specs.declared.Refusal.{Refusal}
 use Rattle.report.specs.declared.Counts.{Counts}
-use Rattle.report.specs.declared.Report.{Report}
-use Rattle.report.specs.declared.Report.TheVariants as report
+use Rattle.report.specs.Answers.{Report}
+use Rattle.report.specs.Answers as report
 
 -- the counts of an accepted message are at most 9,999 (`accepted_few` of FewLaws)
 pub record Few (c : Counts) : Type 0 where

@@ -6,7 +6,9 @@ use mathlib.Core.List.{List, [], ◌∷◌, map}
 use Rattle.service.specs.declared.Service.{Service}
 use Rattle.service.specs.Service.{Fits}
 use Rattle.service.specs.Laws.FitLaws.{fits_fitting}
-use Rattle.segments.specs.SegmentList.{Piece, finished, start_of, segments_from, starts_from}
+use Rattle.segments.specs.declared.Piece.{Piece}
+use Rattle.segments.specs.declared.Piece.TheVariants.{Finished as finished}
+use Rattle.segments.specs.SegmentList.{start_of, segments_from, starts_from}
 use Rattle.parts.specs.Trimmed.{values_at}
 use Rattle.parts.proofs.Laws.ByteLaws.{same_strange}
 use Rattle.values.specs.Forms.Values.{code_of}

@@ -12,7 +12,9 @@ use Rattle.segments.specs.declared.Segment.{Segment}
 use Rattle.segments.specs.declared.Segment.TheVariants.{Finished, Unfinished, Nothing}
 use Rattle.segments.specs.Forms.Segments.{segment_at}
 use Rattle.segments.specs.Laws.SegmentsLaws.{lies, segment_nothing}
-use Rattle.segments.specs.SegmentList.{Piece, finished, segments_from}
+use Rattle.segments.specs.declared.Piece.{Piece}
+use Rattle.segments.specs.declared.Piece.TheVariants.{Finished as finished}
+use Rattle.segments.specs.SegmentList.{segments_from}
 use Rattle.segments.specs.Laws.ListLaws.{list_nothing, list_finished, list_unfinished}
 use Rattle.values.specs.Forms.Codes.{UNT, LIN, SEQ}
 use Rattle.chart.specs.Tags.{tag_on, tags_from, tags_of}

@@ -10,8 +10,8 @@ use Rattle.chart.specs.Laws.TagsLaws.{same_count}
 use Rattle.message.specs.Segs.{Seg, segs_from, segs_of, those, on_row}
 use Rattle.message.specs.Kinds.{means}
 use Rattle.report.specs.declared.Counts.{Counts}
-use Rattle.report.specs.declared.Report.{Report}
-use Rattle.report.specs.declared.Report.TheVariants as report
+use Rattle.report.specs.Answers.{Report}
+use Rattle.report.specs.Answers as report
 use Rattle.report.specs.Reported.{raw_of, bare_of, room_of, Reported, accepted, refused}
 use Rattle.report.specs.Laws.FreeLaws.{free_few}
 use Rattle.report.specs.Laws.PieceLaws.{pieces_tags}

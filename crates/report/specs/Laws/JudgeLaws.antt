@@ -3,6 +3,7 @@ use Rattle.std.specs.Prelude.{ℕ, suc, ◌≤◌, ◌≡◌, List, [], ◌∷�
 use Rattle.std.proofs.Common.{arith, subst, ◌∙◌, true≢false}
 use Rattle.std.proofs.Math.Path.{refl, sym, ap}
 use Rattle.std.proofs.Math.ListN.{length}
+use Rattle.numbers.specs.Table.{table_number}
 use borrow.Author.Tests.{le-leb, leb-true}
 use Rattle.service.specs.declared.Service.{Service}
 use Rattle.service.specs.Tests.{if}
@@ -20,8 +21,8 @@ use Rattle.kinds.specs.Kinds.{any_kind, table_of}
 use Rattle.message.specs.Segs.{segs_of}
 use Rattle.message.specs.Kinds.{means, chart_for, order_count}
 use Rattle.message.specs.Faults.{told, tell_all}
-use Rattle.report.specs.declared.Report.{Report}
-use Rattle.report.specs.declared.Report.TheVariants.{Refused}
+use Rattle.report.specs.Answers.{Report}
+use Rattle.report.specs.Answers.{Refused}
 use Rattle.report.specs.Reported.{Raw, bare_of, Room, room_of, is_kind, lines, asked, fits, early, In, Of, Applies, soon, misfit, late, counts_of, filled, Reported, accepted, refused}
 use Rattle.report.specs.Judged.{Enough, Judged, judged}
 use Rattle.report.specs.Forms.Checks.{listed_orders}
@@ -112,7 +113,7 @@ module _ (v : Service) (m : List ℕ) where
     judged_same : (x' : Lists) (y : Report) → Reported v m x x' y → JudgedIn v m (room_of z) y
     judged_same x' y (accepted c k o rows r free q p) = accepts c k o rows r (λ n s i. free n s (applies_same (room_of z) (room_of x) (f ∙ sym e) n s i)) q
     judged_same x' y (refused g l o p) = refuses g (record {
-      applies = applies_same (room_of x) (room_of z) (e ∙ sym f) g.number g.segment l.applies;
+      applies = applies_same (room_of x) (room_of z) (e ∙ sym f) (table_number g.number) g.segment l.applies;
       least = λ k t i. l.least k t (applies_same (room_of z) (room_of x) (f ∙ sym e) k t i);
     }) o
 
@@ -131,11 +132,11 @@ module _ (v : Service) (m : List ℕ) where
   applies_not x e n s (misfit k o j f p h) q = omega arith
   applies_not x e n s (late k o rows r i) q = let z = (numbers_told 17 31 _ (told n s) (late_numbers k (segs_of v m rows)) i).0 in omega arith
 
-  not_by : (y : Report) → Judged v m y → (f : Refusal) → y ≡ Refused f → f.number ≡ 14 → ⊥
+  not_by : (y : Report) → Judged v m y → (f : Refusal) → y ≡ Refused f → table_number f.number ≡ 14 → ⊥
   not_by y (judged x x' e (accepted c k o rows r free q p)) f h n = let z : ◌≡◌ {A = ℕ} 0 1 = cc in omega arith
-  not_by y (judged x x' e (refused g l o p)) f h n = let i : g ≡ f = cc in applies_not (room_of x) e g.number g.segment l.applies (ap (λ (k : Refusal). k.number) i ∙ n)
+  not_by y (judged x x' e (refused g l o p)) f h n = let i : g ≡ f = cc in applies_not (room_of x) e (table_number g.number) g.segment l.applies (ap (λ (k : Refusal). table_number k.number) i ∙ n)
 
-  pub not_fourteen : (f : Refusal) → Judged v m (Refused f) → f.number ≡ 14 → ⊥
+  pub not_fourteen : (f : Refusal) → Judged v m (Refused f) → table_number f.number ≡ 14 → ⊥
   not_fourteen f h = not_by (Refused f) h f refl
 
   -- lists with an entry for each byte

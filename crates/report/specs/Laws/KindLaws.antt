@@ -6,7 +6,8 @@ use Rattle.std.proofs.Common.{sym, ◌∙◌, true≢false, eqb-true, ne_eqb}
 use mathlib.Core.List.{List, [], ◌∷◌, map}
 use Rattle.std.proofs.Math.Bool.{true, false}
 use Rattle.service.specs.declared.Service.{Service}
-use Rattle.segments.specs.SegmentList.{Piece, segments_from}
+use Rattle.segments.specs.declared.Piece.{Piece}
+use Rattle.segments.specs.SegmentList.{segments_from}
 use Rattle.parts.specs.Parts.{lex, elements, value_at}
 use Rattle.values.specs.Numbers.{value_in}
 use Rattle.values.specs.Text.{text, same_list, says}

@@ -1,8 +1,8 @@
 -- The least of all that is told is told, and nothing told stands before it. Assumes nothing.
-use Rattle.std.specs.Prelude.{ℕ, ◌≤◌, ◌<◌, ◌≡◌, refl, ◌⊎◌, List, [], ◌∷◌}
-use Rattle.std.proofs.Common.{arith, sym, subst, inl, inr, lt-ltb, le-ltb}
+use Rattle.std.specs.Prelude.{ℕ, ◌≤◌, ◌<◌, ◌≡◌, refl, ◌⊎◌, List, [], ◌∷◌, Option, None, Some}
+use Rattle.std.proofs.Common.{arith, sym, ap, subst, inl, inr, lt-ltb, le-ltb}
 use Rattle.std.proofs.Math.Decide.{dec_lt}
-use Rattle.faults.specs.declared.Fault.TheVariants as fault
+use Rattle.faults.specs.Firsts.{fault_at}
 use Rattle.message.specs.Faults.{rank, Told, told, lower, least, least_of}
 use Rattle.report.specs.Reported.{In, here, there}
 
@@ -64,12 +64,29 @@ least_first_lem a [] c (there i) = absurd (nowhere c [] refl i)
 least_first_lem a (b ∷ l) c here = (lower_is a (least b l)).first
 least_first_lem a (b ∷ l) c (there i) = not_after_on (lower a (least b l)) (least b l) c (lower_is a (least b l)).second (least_first_lem b l c i)
 
+-- a fault's number and segment
+abbrev number_or : Option Told → ℕ
+number_or None = 0
+number_or (Some f) = f.number
+
+abbrev segment_or : Option Told → ℕ
+segment_or None = 0
+segment_or (Some f) = f.segment
+
+module _ (n s k t : ℕ) (e : fault_at n s ≡ fault_at k t) where
+  pub same_number : n ≡ k
+  same_number = ap number_or e
+
+  pub same_segment : s ≡ t
+  same_segment = ap segment_or e
+
+pub told_is : (a : Told) (n s : ℕ) → fault_at a.number a.segment ≡ fault_at n s → a ≡ told n s
+told_is a n s e = λ i. record { number = number_or (e i); segment = segment_or (e i) }
+
 -- what is given is told
-pub least_told : (l : List Told) (n s : ℕ) → least_of l ≡ fault.At n s → In (told n s) l
+pub least_told : (l : List Told) (n s : ℕ) → least_of l ≡ fault_at n s → In (told n s) l
 unfolding least_of
 least_told [] n s p = absurd (let z : ◌≡◌ {A = ℕ} 0 1 = cc in omega arith)
 least_told (b ∷ l) n s p =
-    let y : (least b l).number ≡ n = cc in
-    let z : (least b l).segment ≡ s = cc in
-    let w : least b l ≡ told n s = λ i. record { number = y i; segment = z i } in
+    let w = told_is (least b l) n s p in
     subst (λ (a : Told). In a (b ∷ l)) w (least_in b l)

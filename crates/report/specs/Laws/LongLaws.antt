@@ -5,11 +5,12 @@ use Rattle.std.proofs.Math.Decide.{dec_lt}
 use Rattle.std.proofs.Common.{sym, subst, ◌∙◌, inl, inr, true≢false}
 use Rattle.std.proofs.Math.Bool.{true}
 use Rattle.std.proofs.Math.ListN.{length}
+use Rattle.numbers.specs.Table.{table_number}
 use borrow.Author.Tests.{le-leb, lt-leb}
 use Rattle.service.specs.declared.Service.{Service}
 use Rattle.lent.specs.Lists.{Lists, lists}
 use Rattle.message.specs.Faults.{rank, Told, told, tell, tell_all}
-use Rattle.report.specs.declared.Report.{Report}
+use Rattle.report.specs.Answers.{Report}
 use Rattle.report.specs.Reported.{Bare, bare_of, told_unless, asked, Room, room_of, fits, early, In, here, there, Applies, soon, misfit, late, Lowest, Reported, accepted, refused}
 use Rattle.report.specs.Judged.{Judged, judged}
 use Rattle.report.specs.Laws.FreeLaws.{told_in, up_to_twelve, thirteen, free_fits}
@@ -105,7 +106,7 @@ module _ (v : Service) (m : List ℕ) where
 
     judged_short : (x' : Lists) (y : Report) → Reported v m x x' y → Judged v m y
     judged_short x' y (accepted c k o rows r free q p) = absurd (true≢false (sym (free_fits v m (room_of x) free) ∙ e))
-    judged_short x' y (refused g l o p) = judged (lists m m m) (lists m m m) (bytes_enough v m) (refused g (lowest_same (room_of (lists m m m)) (bytes_enough v m) g.number g.segment l) o refl)
+    judged_short x' y (refused g l o p) = judged (lists m m m) (lists m m m) (bytes_enough v m) (refused g (lowest_same (room_of (lists m m m)) (bytes_enough v m) (table_number g.number) g.segment l) o refl)
 
   pub long_judged : (x x' : Lists) (y : Report) → (9999 ≤ length x.rows) × (9999 ≤ length x.starts) × (9999 ≤ length x.totals) → Reported v m x x' y → Judged v m y
   long_judged x x' y long w = go (fits b.segments (room_of x)) refl

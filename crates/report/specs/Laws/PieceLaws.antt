@@ -5,7 +5,8 @@ use Rattle.std.proofs.Math.Path.{refl}
 use mathlib.Core.List.{List, [], ◌∷◌, map}
 use Rattle.std.proofs.Math.Bool.{false}
 use Rattle.service.specs.declared.Service.{Service}
-use Rattle.segments.specs.SegmentList.{Piece, start_of, segments_from, starts_from, start_at}
+use Rattle.segments.specs.declared.Piece.{Piece}
+use Rattle.segments.specs.SegmentList.{start_of, segments_from, starts_from, start_at}
 use Rattle.segments.specs.Laws.StartsLaws.{starts_count}
 use Rattle.parts.specs.Parts.{lex}
 use Rattle.parts.proofs.Laws.ValueLaws.{tag_value}

@@ -6,13 +6,16 @@ use Rattle.std.proofs.Common.{◌∙◌, subst, eq-eqb, ne_eqb, leb-false}
 use mathlib.Core.List.{List, [], ◌∷◌, ◌++◌, map}
 use Rattle.std.proofs.Math.Bool.{true, false}
 use Rattle.std.proofs.lemmas.List.{length-map}
+use Rattle.numbers.specs.Table.{table_number}
 use Rattle.service.specs.declared.Service.{Service}
 use Rattle.service.specs.Service.{Fits, fitting}
 use Rattle.service.specs.Tests.{is_empty}
 use Rattle.segments.specs.declared.Segment.TheVariants.{Finished, Unfinished}
 use Rattle.segments.specs.Forms.Segments.{segment_at}
 use Rattle.segments.specs.Laws.SegmentsLaws.{Lies}
-use Rattle.segments.specs.SegmentList.{Piece, finished, unfinished, start_of, segments_from, starts_from, start_at, end_of, end_at}
+use Rattle.segments.specs.declared.Piece.{Piece}
+use Rattle.segments.specs.declared.Piece.TheVariants.{Finished as finished, Unfinished as unfinished}
+use Rattle.segments.specs.SegmentList.{start_of, segments_from, starts_from, start_at, end_of, end_at}
 use Rattle.segments.specs.Laws.StartsLaws.{by_place, starts_count, starts_here}
 use Rattle.parts.specs.Parts.{strange_in}
 use Rattle.tally.specs.Tallied.{first_place}
@@ -25,8 +28,8 @@ use Rattle.chart.proofs.Whole.{placed_rows}
 use Rattle.chart.proofs.Tables.{sound}
 use Rattle.message.specs.Segs.{segs_of}
 use Rattle.message.specs.Faults.{told}
-use Rattle.report.specs.declared.Report.{Report}
-use Rattle.report.specs.declared.Report.TheVariants.{Refused}
+use Rattle.report.specs.Answers.{Report}
+use Rattle.report.specs.Answers.{Refused}
 use Rattle.report.specs.Reported.{Room, raw_of, bare_of, told_unless, rule10, headed, fits, early, Applies, soon, misfit, late, offset_of, Reported, accepted, refused}
 use Rattle.report.specs.Laws.ToldLaws.{Every, every_map, All, all_told}
 use Rattle.report.specs.Laws.EarlyLaws.{numbers_told, late_numbers}
@@ -38,9 +41,9 @@ use Rattle.report.specs.Laws.TenLaws.{bad_inside, bad_cut, bad_on}
 -- a refusal at the segment before which k stand: there is one; the offset is its start, or, under 10, that of a byte in it
 pub record Points (v : Service) (m : List ℕ) (f : Refusal) (k : ℕ) : Type 0 where
   pub some : k < length (segments_from v m 0)
-  pub start : (f.number ≡ 10 → ⊥) → f.offset ≡ start_at v m k
-  pub from : Fits v → f.number ≡ 10 → start_at v m k ≤ f.offset
-  pub to : Fits v → f.number ≡ 10 → f.offset < end_at v m k
+  pub start : (table_number f.number ≡ 10 → ⊥) → f.offset ≡ start_at v m k
+  pub from : Fits v → table_number f.number ≡ 10 → start_at v m k ≤ f.offset
+  pub to : Fits v → table_number f.number ≡ 10 → f.offset < end_at v m k
 
 -- ---- number 10: a segment where it is told has such a byte
 record Spoilt (v : Service) (m : List ℕ) (k : ℕ) (l : List Piece) : Type 0 where
@@ -165,15 +168,15 @@ module _ (v : Service) (m : List ℕ) (long : 0 < length m) where
   unfolding offset_of
   offset_none n = refl
 
-  points : (f : Refusal) (k : ℕ) → f.segment ≡ suc k → f.offset ≡ offset_of v m f.number f.segment → Named f.number k → Points v m f k
+  points : (f : Refusal) (k : ℕ) → f.segment ≡ suc k → f.offset ≡ offset_of v m (table_number f.number) f.segment → Named (table_number f.number) k → Points v m f k
   unfolding starts_from
   points f k e o w =
-      let p : f.offset ≡ offset_of v m f.number (suc k) = o ∙ ap (offset_of v m f.number) e in
+      let p : f.offset ≡ offset_of v m (table_number f.number) (suc k) = o ∙ ap (offset_of v m (table_number f.number)) e in
       record {
         some = w.some;
-        start = λ h. p ∙ offset_start f.number k h;
-        from = λ u h. let z = p ∙ offset_byte f.number k h in let y = (at_byte v m (segments_from v m 0) (inner v m u) k (w.ten h)).0 in omega arith;
-        to = λ u h. let z = p ∙ offset_byte f.number k h in let y = (at_byte v m (segments_from v m 0) (inner v m u) k (w.ten h)).1 in omega arith;
+        start = λ h. p ∙ offset_start (table_number f.number) k h;
+        from = λ u h. let z = p ∙ offset_byte (table_number f.number) k h in let y = (at_byte v m (segments_from v m 0) (inner v m u) k (w.ten h)).0 in omega arith;
+        to = λ u h. let z = p ∙ offset_byte (table_number f.number) k h in let y = (at_byte v m (segments_from v m 0) (inner v m u) k (w.ten h)).1 in omega arith;
       }
 
   module _ (x x' : Lists) where
@@ -182,7 +185,7 @@ module _ (v : Service) (m : List ℕ) (long : 0 < length m) where
     place_by y (refused g l o p) f z =
         let w : g ≡ f = cc in
         subst (λ (f : Refusal). (f.segment ≡ 0 → f.offset ≡ 0) × ((k : ℕ) → f.segment ≡ suc k → Points v m f k)) w
-        (λ e. o ∙ ap (offset_of v m g.number) e ∙ offset_none g.number, λ k e. points g k e o (applies_place _ g.number g.segment l.applies k e))
+        (λ e. o ∙ ap (offset_of v m (table_number g.number)) e ∙ offset_none (table_number g.number), λ k e. points g k e o (applies_place _ (table_number g.number) g.segment l.applies k e))
 
     -- a refusal of a message that has bytes
     pub refusal_place : (f : Refusal) → Reported v m x x' (Refused f) → (f.segment ≡ 0 → f.offset ≡ 0) × ((k : ℕ) → f.segment ≡ suc k → Points v m f k)

@@ -1,6 +1,8 @@
 -- No second answer meets `Reported`. Assumes nothing.
 use Rattle.std.specs.Prelude.{ℕ, ◌≤◌, ◌<◌, ◌≡◌, ◌⊎◌, List}
 use Rattle.std.proofs.Common.{arith, sym, ap, subst, ◌∙◌, inl, inr}
+use Rattle.numbers.specs.Laws.TableLaws.{number_one}
+use Rattle.numbers.specs.Table.{table_number}
 use Rattle.service.specs.declared.Service.{Service}
 use Rattle.interchange.specs.declared.Refusal.{Refusal}
 use Rattle.chart.specs.Tags.{tags_of}
@@ -10,7 +12,7 @@ use Rattle.message.specs.Kinds.{chart_for}
 use Rattle.chart.proofs.Theorems.{one_reading}
 use Rattle.lent.specs.Lists.{Lists, left}
 use Rattle.message.specs.Faults.{rank}
-use Rattle.report.specs.declared.Report.{Report}
+use Rattle.report.specs.Answers.{Report}
 use Rattle.report.specs.Reported.{Room, Lowest, room_of, Reported, accepted, refused}
 use Rattle.report.specs.Laws.KindLaws.{one_kind}
 
@@ -33,9 +35,9 @@ one_report v m x x1 x2 y z (accepted c k o rows a none e p) (accepted d k' o' ro
     let q = one_kind v m k k' o o' in
     let w = one_reading (chart_for k') (tags_of v m) rows rows' (subst (λ (i : Kind). Reading (chart_for i) (tags_of v m) rows) q a) a' in
     rw (e, e', p, p', w, q)
-one_report v m x x1 x2 y z (accepted c k o rows a none e p) (refused f l o' p') = absurd (none f.number f.segment l.applies)
-one_report v m x x1 x2 y z (refused f l o p) (accepted c k o' rows a none e p') = absurd (none f.number f.segment l.applies)
+one_report v m x x1 x2 y z (accepted c k o rows a none e p) (refused f l o' p') = absurd (none (table_number f.number) f.segment l.applies)
+one_report v m x x1 x2 y z (refused f l o p) (accepted c k o' rows a none e p') = absurd (none (table_number f.number) f.segment l.applies)
 one_report v m x x1 x2 y z (refused f l o p) (refused g k i p') =
-    let w = one_lowest v m (room_of x) f.number f.segment g.number g.segment l k in
-    let u : f ≡ g = refusal_eq f g w.0 w.1 (o ∙ rw (w.0, w.1) (sym i)) in
+    let w = one_lowest v m (room_of x) (table_number f.number) f.segment (table_number g.number) g.segment l k in
+    let u : f ≡ g = refusal_eq f g (number_one f.number g.number w.0) w.1 (o ∙ rw (w.0, w.1) (sym i)) in
     rw (u, p, p')

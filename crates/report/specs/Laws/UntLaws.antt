@@ -1,7 +1,7 @@
 -- Whether a message is closed, by the place of its first UNT that the tally has. Assumes nothing.
 use Prim.Native.Nat.{ℕ, zero, suc, ◌+◌, ◌-◌, ◌≤◌, ◌<◌}
 use Rattle.std.proofs.Common.{arith, sym, ◌∙◌, le-leb}
-use Rattle.std.specs.Prelude.{◌≡◌, List, Bool, not, length, eqb}
+use Rattle.std.specs.Prelude.{◌≡◌, List, Bool, not, length, eqb, Option, None, Some}
 use Rattle.std.proofs.Math.Path.{refl, ap, subst}
 use Rattle.std.proofs.Math.Bool.{true, false}
 use Rattle.service.specs.declared.Service.{Service}
@@ -14,8 +14,6 @@ use Rattle.segments.specs.SegmentList.{segments_from}
 use Rattle.segments.specs.Laws.ListLaws.{list_nothing, list_finished, list_unfinished}
 use Rattle.values.specs.Numbers.{value_from}
 use Rattle.values.specs.Forms.Values.{code_of}
-use Rattle.faults.specs.declared.First.{First}
-use Rattle.faults.specs.declared.First.TheVariants as first
 use Rattle.faults.specs.Firsts.{lesser, place_unless}
 use Rattle.values.specs.Forms.Codes.{UNT}
 use Rattle.tally.specs.Tallied.{tally_of}
@@ -24,31 +22,31 @@ use Rattle.interchange.specs.Messages.{tag_at, closed_at, ends_closed}
 use Rattle.report.specs.Forms.Checks.{ends_by, ends_with}
 
 -- not before i
-abbrev From : ℕ → First → Type 0
-From i first.None = Unit {0}
-From i (first.At p) = i ≤ p
+abbrev From : ℕ → Option ℕ → Type 0
+From i None = Unit {0}
+From i (Some p) = i ≤ p
 
 record Untied (v : Service) (m : List ℕ) (i : ℕ) : Type 0 where
   same : ends_with v m (tally_of v m (segments_from v m i)).unt ≡ closed_at v m (length m) (segments_from v m i)
   from : From i (tally_of v m (segments_from v m i)).unt
 
-from_lower : (i n : ℕ) (f : First) → i ≤ n → From n f → From i f
-from_lower i n first.None h g = tt
-from_lower i n (first.At p) h g = omega arith
+from_lower : (i n : ℕ) (f : Option ℕ) → i ≤ n → From n f → From i f
+from_lower i n None h g = tt
+from_lower i n (Some p) h g = omega arith
 
-lesser_from : (i n : ℕ) (f : First) → i < n → From n f → lesser (first.At i) f ≡ first.At i
+lesser_from : (i n : ℕ) (f : Option ℕ) → i < n → From n f → lesser (Some i) f ≡ Some i
 unfolding lesser
-lesser_from i n first.None h g = refl
-lesser_from i n (first.At p) h g = let w : i ≤ p = omega arith in rw (le-leb i p w)
+lesser_from i n None h g = refl
+lesser_from i n (Some p) h g = let w : i ≤ p = omega arith in rw (le-leb i p w)
 
 module _ (v : Service) (m : List ℕ) where
   module _ (i t n : ℕ) (e : Finished t n ≡ segment_at v i m) (u : Untied v m n) where
-    more_by : (b : Bool) → eqb (code_of (value_from v i m)) UNT ≡ b → (f : First) → f ≡ lesser (place_unless (not b) i) (tally_of v m (segments_from v m n)).unt
+    more_by : (b : Bool) → eqb (code_of (value_from v i m)) UNT ≡ b → (f : Option ℕ) → f ≡ lesser (place_unless (not b) i) (tally_of v m (segments_from v m n)).unt
         → (ends_with v m f ≡ if b (eqb (t + 1) (length m)) (closed_at v m (length m) (segments_from v m n))) × From i f
     unfolding lesser
     more_by true g f q =
         let w = lies v m i (Finished t n) e t n refl in
-        let z : f ≡ first.At i = q ∙ lesser_from i n (tally_of v m (segments_from v m n)).unt (omega arith) u.from in
+        let z : f ≡ Some i = q ∙ lesser_from i n (tally_of v m (segments_from v m n)).unt (omega arith) u.from in
         (ap (ends_with v m) z ∙ ap (ends_by (length m)) (sym e), subst (From i) (sym z) (omega arith))
     more_by false g f q =
         let w = lies v m i (Finished t n) e t n refl in

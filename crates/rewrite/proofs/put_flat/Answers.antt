@@ -1,22 +1,16 @@
-use Rattle.parts.proofs.Laws.LexLaws.{less_byte, less_comp, less_elem}
-use Rattle.rewrite.specs.Laws.WriteLaws.{flow_start, flow_byte, flow_comp, flow_elem, flow_stop, flow_comp_fits, flow_elem_fits}
-use Rattle.std.proofs.Common.{rules}
+-- Each token is put as the definition says.
+use Rattle.std.proofs.Common.{◌∙◌, ap, ◌∷◌}
+use Rattle.parts.specs.Tokens.{tok, tokens_left}
+use Rattle.rewrite.specs.Laws.WriteLaws.{flow_start, flow_byte, flow_stop}
 use Rattle.rewrite.proofs.put_flat.Goals as goal
 
-pub loop-b-preserved-in-Byte : goal.loop-b-preserved-in-Byte
-loop-b-preserved-in-Byte c = search (less_byte, less_comp, less_elem, flow_start, flow_byte, flow_comp, flow_elem, flow_stop, flow_comp_fits, flow_elem_fits, rules)
+pub loop-part-init : goal.loop-part-init
+loop-part-init c = rw c.into_iter-part-iterator.ensures.into_iter_gives (flow_start _ _ _ _ _)
 
-pub overflow_add-components : goal.overflow_add-components
-overflow_add-components c = search (less_byte, less_comp, less_elem, flow_start, flow_byte, flow_comp, flow_elem, flow_stop, flow_comp_fits, flow_elem_fits, rules)
+pub loop-part-preserved-in-Byte : goal.loop-part-preserved-in-Byte
+loop-part-preserved-in-Byte c =
+    flow_byte _ _ _ _ _ _ _ _ _ c.loop-part.invariant _ _ (c.in-Some.ensures.steps ∙ ap (λ p. tok p ∷ tokens_left c.next.new.self) c.in-Byte.is)
+    _ _ _ _ _ _ c.put_times-j.ensures c.put_times-j-in-Byte.ensures c.put_value_byte-j.ensures
 
-pub loop-b-preserved-in-Comp : goal.loop-b-preserved-in-Comp
-loop-b-preserved-in-Comp c = search (less_byte, less_comp, less_elem, flow_start, flow_byte, flow_comp, flow_elem, flow_stop, flow_comp_fits, flow_elem_fits, rules)
-
-pub overflow_add-elements : goal.overflow_add-elements
-overflow_add-elements c = search (less_byte, less_comp, less_elem, flow_start, flow_byte, flow_comp, flow_elem, flow_stop, flow_comp_fits, flow_elem_fits, rules)
-
-pub loop-b-preserved : goal.loop-b-preserved
-loop-b-preserved c = search (less_byte, less_comp, less_elem, flow_start, flow_byte, flow_comp, flow_elem, flow_stop, flow_comp_fits, flow_elem_fits, rules)
-
-pub returns-in-Stop : goal.returns-in-Stop
-returns-in-Stop c = search (less_byte, less_comp, less_elem, flow_start, flow_byte, flow_comp, flow_elem, flow_stop, flow_comp_fits, flow_elem_fits, rules)
+pub returns : goal.returns
+returns c = flow_stop _ _ _ _ _ _ _ _ _ c.loop-part.invariant c.in-None.ensures.steps.0

@@ -8,11 +8,15 @@ use mathlib.Core.List.{List, [], ◌∷◌}
 use Rattle.service.specs.declared.Service.{Service}
 use Rattle.service.specs.Service.{plain_service}
 use Rattle.service.specs.Tests.{is_empty}
-use Rattle.segments.specs.SegmentList.{Piece, finished, gap, pieces, segments_after, segments_from}
+use Rattle.segments.specs.declared.Piece.{Piece}
+use Rattle.segments.specs.declared.Piece.TheVariants.{Finished as finished}
+use Rattle.segments.specs.SegmentList.{gap, pieces, segments_after, segments_from}
 use Rattle.parts.specs.Trimmed.{Values, values_at, values_in}
 use Rattle.values.specs.Text.{text}
-use Rattle.interchange.specs.declared.Opening.TheVariants.{Opens}
-use Rattle.interchange.specs.Messages.{tag_at, Kind, head, trailer, last, other, cut, kind_of, Extent, is_closed, bytes_of, extent_by, extent_of, messages_by, messages_of}
+use Rattle.interchange.specs.Answers.{Opens}
+use Rattle.interchange.specs.Messages.{tag_at, kind_of, Extent, is_closed, bytes_of, extent_by, extent_of, messages_by, messages_of}
+use Rattle.interchange.specs.declared.Kind.{Kind}
+use Rattle.interchange.specs.declared.Kind.TheVariants.{Head as head, Trailer as trailer, Last as last, Other as other, Cut as cut}
 use Rattle.interchange.specs.Envelope.{body_of}
 use Rattle.interchange.specs.Forms.Answers.{opening_of}
 use Rattle.interchange.specs.Laws.WalkLaws.{Placed, end, at}

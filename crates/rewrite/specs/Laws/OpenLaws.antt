@@ -4,9 +4,10 @@ use Rattle.std.proofs.Common.{arith, ◌∙◌, subst}
 use Rattle.std.proofs.Math.Path.{refl, sym, ap}
 use Rattle.std.proofs.Math.Bool.{false}
 use Rattle.service.specs.declared.Service.{Service}
-use Rattle.service.specs.declared.Characters.TheVariants.{Fit}
+use Rattle.service.specs.Service.{Fit}
 use Rattle.service.specs.Service.{plain_service, begins_una, characters_of, among}
-use Rattle.segments.specs.SegmentList.{Piece, gap, pieces, all_finished, segments_from}
+use Rattle.segments.specs.declared.Piece.{Piece}
+use Rattle.segments.specs.SegmentList.{gap, pieces, all_finished, segments_from}
 use Rattle.segments.specs.Laws.ListLaws.{finished_first}
 use Rattle.segments.specs.Laws.ResyncLaws.{gap_first}
 use Rattle.parts.specs.Parts.{lex, elements, value_at}
@@ -14,7 +15,7 @@ use Rattle.parts.proofs.Laws.ValueLaws.{tag_value}
 use Rattle.parts.specs.Trimmed.{Values, values_at, values_in, values_from}
 use Rattle.parts.proofs.Laws.TrimLaws.{trimmed_value, values_trimmed}
 use Rattle.values.specs.Text.{text}
-use Rattle.interchange.specs.declared.Opening.TheVariants.{Opens}
+use Rattle.interchange.specs.Answers.{Opens}
 use Rattle.interchange.specs.Envelope.{first_at}
 use Rattle.interchange.specs.Forms.Answers.{opening_of}
 use Rattle.interchange.specs.Laws.OpenedLaws.{opened, opens}

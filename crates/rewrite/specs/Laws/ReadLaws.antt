@@ -10,7 +10,9 @@ use Rattle.service.specs.Service.{plain_service}
 use Rattle.service.specs.Tests.{if}
 use Rattle.segments.specs.declared.Class.TheVariants.{Term}
 use Rattle.segments.specs.Classes.{class_of, is_break}
-use Rattle.segments.specs.SegmentList.{Piece, finished, gap, inside, pieces, segments_from}
+use Rattle.segments.specs.declared.Piece.{Piece}
+use Rattle.segments.specs.declared.Piece.TheVariants.{Finished as finished}
+use Rattle.segments.specs.SegmentList.{gap, inside, pieces, segments_from}
 use Rattle.segments.specs.Laws.ResyncLaws.{gap_start, unbroken, gap_first, gap_inside}
 use Rattle.parts.specs.Parts.{Tok, lex, elements}
 use Rattle.parts.specs.Written.{Writes, none, as_is, behind, component, element}

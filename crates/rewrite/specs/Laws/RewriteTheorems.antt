@@ -1,28 +1,30 @@
 -- Rewriting keeps each value, and rewriting twice changes nothing more. "Equal values, trailing empties aside, exactly when equal rewritten bytes."
 -- Assumes nothing.
 use Prim.Native.Nat.{ℕ, ◌≤◌}
-use Rattle.std.specs.Prelude.{◌≡◌, refl, Bool, true, false, length, leb}
+use Rattle.std.specs.Prelude.{◌≡◌, refl, Bool, true, false, length, leb, Ok, Err}
 use Rattle.std.proofs.Math.Path.{sym, ap, ap₂}
 use Rattle.std.proofs.Common.{◌∙◌, arith, leb-true}
+use Rattle.numbers.specs.declared.Number.TheVariants as numbers
 use mathlib.Core.List.{List, map}
 use Rattle.service.specs.Laws.ServiceLaws.{and_left, and_right}
 use Rattle.service.specs.declared.Service.{Service}
 use Rattle.service.specs.Service.{plain_service}
 use Rattle.service.specs.Tests.{if}
-use Rattle.segments.specs.SegmentList.{Piece, segments_from}
+use Rattle.segments.specs.declared.Piece.{Piece}
+use Rattle.segments.specs.SegmentList.{segments_from}
 use Rattle.parts.specs.Parts.{value_at}
 use Rattle.parts.specs.Trimmed.{Values, trimmed, values_at, values_from}
 use Rattle.parts.proofs.Laws.TrimLaws.{same_at, same_trimmed, values_trimmed}
 use Rattle.values.specs.Exactly.{Exactly}
-use Rattle.interchange.specs.declared.Opening.{Opening}
-use Rattle.interchange.specs.declared.Opening.TheVariants.{Opens, Refused}
+use Rattle.interchange.specs.Answers.{Opening}
+use Rattle.interchange.specs.Answers.{Opens}
 use Rattle.interchange.specs.Envelope.{refusal, after_first, last_start, body_of, message_count, stray_count}
 use Rattle.interchange.specs.Forms.Answers.{opening_of, closed_by, closing_by, closing_of}
 use Rattle.interchange.specs.Alike.{Alike, none, both}
 use Rattle.interchange.specs.Laws.AlikeLaws.{same_count, same_strays, same_last, same_end, same_number}
-use Rattle.rewrite.specs.declared.Rewriting.{Rewriting}
-use Rattle.rewrite.specs.declared.Rewriting.TheVariants.{Written}
-use Rattle.rewrite.specs.declared.Rewriting.TheVariants as rewriting
+use Rattle.rewrite.specs.Answers.{Rewriting}
+use Rattle.rewrite.specs.Answers.{Written}
+use Rattle.rewrite.specs.Answers as rewriting
 use Rattle.rewrite.specs.Plain.{values_by, values_of, plain, rewritten, fits, rewriting_by, rewriting_of, room_by, room_after}
 use Rattle.rewrite.specs.Laws.ReadLaws.{read_back}
 use Rattle.rewrite.specs.Laws.OpenLaws.{same_values, alike_rewritten, first_values, reopens}
@@ -33,8 +35,8 @@ pub equal_values : (x y : Values) → Exactly (trimmed x ≡ trimmed y) ((e c : 
 equal_values x y = (same_at x y, same_trimmed x y)
 
 trimmed_by : (s : List ℕ) (k : Opening) → map trimmed (values_by s k) ≡ values_by s k
-trimmed_by s (Opens v first) = values_trimmed v s (segments_from v s first)
-trimmed_by s (Refused f) = refl
+trimmed_by s (Ok m) = values_trimmed m.service s (segments_from m.service s m.first)
+trimmed_by s (Err f) = refl
 
 values_read : (s : List ℕ) → values_from plain_service (rewritten s) 0 ≡ values_of s
 unfolding rewritten values_of
@@ -106,7 +108,7 @@ pub record WrittenSo (s : List ℕ) (room n : ℕ) : Type 0 where
   pub within : length (rewritten s) ≤ room
 
 so_by : (s : List ℕ) (room n : ℕ) (v : Service) (first : ℕ) → opening_of s ≡ Opens v first → (t : Bool) → fits (length (rewritten s)) room ≡ t
-    → if t (Written (length (rewritten s))) (rewriting.Refused (refusal 9)) ≡ Written n → WrittenSo s room n
+    → if t (Written (length (rewritten s))) (rewriting.Refused (refusal numbers.Room)) ≡ Written n → WrittenSo s room n
 unfolding fits
 so_by s room n v first o true q e =
     let m : length (rewritten s) ≡ n = cc in
@@ -121,8 +123,8 @@ so_by s room n v first o true q e =
 so_by s room n v first o false q e = absurd (let z : ◌≡◌ {A = ℕ} 0 1 = cc in omega arith)
 
 so_opening : (s : List ℕ) (room n : ℕ) (k : Opening) → opening_of s ≡ k → rewriting_by k (length (rewritten s)) room ≡ Written n → WrittenSo s room n
-so_opening s room n (Opens v first) o e = so_by s room n v first o (fits (length (rewritten s)) room) refl e
-so_opening s room n (Refused f) o e = absurd (let z : ◌≡◌ {A = ℕ} 0 1 = cc in omega arith)
+so_opening s room n (Ok m) o e = so_by s room n m.service m.first o (fits (length (rewritten s)) room) refl e
+so_opening s room n (Err f) o e = absurd (let z : ◌≡◌ {A = ℕ} 0 1 = cc in omega arith)
 
 pub written_so : (s : List ℕ) (room n : ℕ) → rewriting_of s room ≡ Written n → WrittenSo s room n
 unfolding rewriting_of

@@ -1,18 +1,18 @@
 -- One turn of each scan of `Bytes`, at a position of a list. Each premise is a fact that a loop's proof has at hand, so that it can be looked up there. Assumes nothing.
-use Rattle.std.specs.Prelude.{ℕ, suc, ◌+◌, ◌-◌, ◌≤◌, ◌<◌, ◌≡◌, List, [], ◌∷◌, Bool, true, false, eqb, length, get_or, drop}
+use Rattle.std.specs.Prelude.{ℕ, suc, ◌+◌, ◌≤◌, ◌<◌, ◌≡◌, List, [], ◌∷◌, Bool, true, false, eqb, length, get_or, drop}
 use Rattle.std.proofs.Math.Numerals.{add-one}
 use Rattle.std.proofs.Common.{arith, ◌∙◌, ap, drop_of_length-le, drop-drop}
 use Rattle.std.proofs.Math.Path.{refl, sym}
-use borrow.Author.Tests.{eq-eqb, ne_eqb, eqb-true, lt-ltb, le-ltb}
+use borrow.Author.Tests.{eq-eqb, ne_eqb, eqb-true, eqb-false}
 use Rattle.std.proofs.Math.Seq.{drop-cons}
 use Rattle.service.specs.declared.Service.{Service}
 use Rattle.service.specs.Tests.{if}
 use Rattle.segments.specs.declared.Class.{Class}
 use Rattle.segments.specs.declared.Class.TheVariants.{Plain, Comp, Elem, Rel, Term}
-use Rattle.segments.specs.declared.End.{End}
-use Rattle.segments.specs.declared.End.TheVariants.{At, None}
-use Rattle.segments.specs.Classes.{class_of}
-use Rattle.segments.specs.Forms.Bytes.{end_by, end_from, release_by, release_of, follows_release, past_breaks}
+use Rattle.std.specs.Prelude.{Option}
+use Rattle.std.specs.Prelude.{Some, None}
+use Rattle.segments.specs.Classes.{class_of, is_break}
+use Rattle.segments.specs.Forms.Bytes.{end_by, end_from, release_by, release_of, past_breaks}
 
 -- what an unreleased byte is, by the tests in the order of `class_of`
 module _ (v : Service) (b : ℕ) where
@@ -42,15 +42,6 @@ module _ (v : Service) (b : ℕ) where
         pub class_plain' : v.releases ≡ false → Plain ≡ class_of v b
         unfolding class_of
         class_plain' o = simp (ne_eqb _ _ t, ne_eqb _ _ l, ne_eqb _ _ p, o)
-
--- the byte that is a release, by what the one named as the release is
-module _ (v : Service) (k : Class) (c : k ≡ class_of v v.release) where
-  pub release_by_lem : release_by k v ≡ release_of v
-  unfolding release_of
-  release_by_lem = rw c
-
-  pub release_rel : k ≡ Rel → v.release ≡ release_of v
-  release_rel e = rw e at release_by_lem
 
 -- what an unreleased byte is, by the one byte that it must equal to be a release
 module _ (v : Service) (b : ℕ) where
@@ -94,22 +85,12 @@ module _ (v : Service) (b : ℕ) where
     unfolding release_of
     is_release e = is_by (class_of v v.release) refl e
 
-    pub goes_on : (b ≡ release_of v → ⊥) → (k : Class) → k ≡ class_of v b → (i : ℕ) (x y : End) → end_by k i x y ≡ y
+    pub goes_on : (b ≡ release_of v → ⊥) → (k : Class) → k ≡ class_of v b → (i : ℕ) (x y : Option ℕ) → end_by k i x y ≡ y
     goes_on n Plain c i x y = refl
     goes_on n Comp c i x y = refl
     goes_on n Elem c i x y = refl
     goes_on n Rel c i x y = absurd (n (release_is (sym c)))
     goes_on n Term c i x y = absurd (t (term_of (sym c)))
-
--- the byte before one
-module _ (v : Service) (i p : ℕ) (s : List ℕ) where
-  pub follows_near : i < p → eqb (get_or s (p - 1) 0) v.release ≡ follows_release v i p s
-  unfolding follows_release
-  follows_near h = simp (lt-ltb _ _ h)
-
-  pub follows_far : p ≤ i → false ≡ follows_release v i p s
-  unfolding follows_release
-  follows_far h = simp (le-ltb _ _ h)
 
 -- a byte after a release is passed over, if there is one
 held_by_lem : (v : Service) (i : ℕ) (l : List ℕ) → end_from v true i l ≡ end_from v false (suc i) (drop 1 l)
@@ -120,43 +101,48 @@ held_by_lem v i (b ∷ l) = refl
 past_held : (v : Service) (i : ℕ) (s : List ℕ) → end_from v true i (drop i s) ≡ end_from v false (i + 1) (drop (i + 1) s)
 past_held v i s = held_by_lem v i (drop i s) ∙ rw (drop-drop 1 i s, add-one)
 
--- the end of a segment
-module _ (x : End) (v : Service) (s : List ℕ) (i : ℕ) (inv : x ≡ end_from v false i (drop i s)) where
+-- the end of a segment, from a byte that is released or not
+module _ (x : Option ℕ) (v : Service) (s : List ℕ) (i : ℕ) (r : Bool) (inv : x ≡ end_from v r i (drop i s)) where
   pub end_none : length s ≤ i → None ≡ x
   unfolding end_from
-  end_none h = sym (inv ∙ rw (drop_of_length-le s))
+  end_none h = sym (inv ∙ rw (drop_of_length-le s h))
 
-  module _ (h : i < length s) where
+  pub end_held : i < length s → r ≡ true → x ≡ end_from v false (i + 1) (drop (i + 1) s)
+  end_held h e = inv ∙ rw e (past_held v i s)
+
+  module _ (h : i < length s) (z : r ≡ false) where
     end_by_lem : (k : Class) → k ≡ class_of v (get_or s i 0) → x ≡ end_by k i (end_from v true (i + 1) (drop (i + 1) s)) (end_from v false (i + 1) (drop (i + 1) s))
     unfolding end_from
-    end_by_lem k c = inv ∙ rw (c, add-one, drop-cons s i 0)
+    end_by_lem k c = inv ∙ rw (z, c, add-one, drop-cons s i 0 h)
 
-    pub end_term : get_or s i 0 ≡ v.terminator → At i ≡ x
+    pub end_term : get_or s i 0 ≡ v.terminator → Some i ≡ x
     end_term e = sym (end_by_lem Term (class_term v _ e))
 
-    module _ (t : get_or s i 0 ≡ v.terminator → ⊥) (r : ℕ) (q : r ≡ release_of v) where
-      pub end_rel : get_or s i 0 ≡ r → x ≡ end_from v false (i + 2) (drop (i + 2) s)
-      end_rel e = end_by_lem Rel (is_release v _ t (e ∙ q)) ∙ past_held v (i + 1) s ∙ ap (λ (n : ℕ). end_from v false n (drop n s)) (omega arith)
+    module _ (t : get_or s i 0 ≡ v.terminator → ⊥) (q : ℕ) (c : q ≡ release_of v) where
+      on_by : (u : Bool) → eqb (get_or s i 0) q ≡ u → x ≡ end_from v u (i + 1) (drop (i + 1) s)
+      on_by true e = end_by_lem Rel (is_release v _ t (eqb-true _ _ e ∙ c))
+      on_by false e = end_by_lem (class_of v (get_or s i 0)) refl ∙ goes_on v _ t (λ w. eqb-false _ _ e (w ∙ sym c)) _ refl _ _ _
 
-      pub end_on : (get_or s i 0 ≡ r → ⊥) → x ≡ end_from v false (i + 1) (drop (i + 1) s)
-      end_on n = end_by_lem (class_of v (get_or s i 0)) refl ∙ goes_on v _ t (λ e. n (e ∙ sym q)) _ refl _ _ _
+      pub end_on : x ≡ end_from v (eqb (get_or s i 0) q) (i + 1) (drop (i + 1) s)
+      end_on = on_by (eqb (get_or s i 0) q) refl
 
 -- breaks
 module _ (x : ℕ) (s : List ℕ) (i : ℕ) (inv : x ≡ past_breaks i (drop i s)) where
   pub breaks_none : length s ≤ i → i ≡ x
   unfolding past_breaks
-  breaks_none h = sym (inv ∙ rw (drop_of_length-le s))
+  breaks_none h = sym (inv ∙ rw (drop_of_length-le s h))
 
-  module _ (h : i < length s) where
-    breaks_by : x ≡ if (eqb (get_or s i 0) 13) (past_breaks (i + 1) (drop (i + 1) s)) (if (eqb (get_or s i 0) 10) (past_breaks (i + 1) (drop (i + 1) s)) i)
+  module _ (h : i < length s) (k : Bool) (c : k ≡ is_break (get_or s i 0)) where
+    breaks_by : x ≡ if k (past_breaks (i + 1) (drop (i + 1) s)) i
     unfolding past_breaks
-    breaks_by = inv ∙ rw (add-one, drop-cons s i 0)
+    breaks_by = inv ∙ rw (add-one, drop-cons s i 0 h) (by_if (eqb (get_or s i 0) 13) (eqb (get_or s i 0) 10) _) ∙ ap (λ (b : Bool). if b (past_breaks (i + 1) (drop (i + 1) s)) i) (sym c)
+      where
+        by_if : (a b : Bool) (y : ℕ) → if a y (if b y i) ≡ if (if a true b) y i
+        by_if true b y = refl
+        by_if false b y = refl
 
-    pub breaks_cr : get_or s i 0 ≡ 13 → x ≡ past_breaks (i + 1) (drop (i + 1) s)
-    breaks_cr e = simp (eq-eqb _ _ e) at breaks_by
+    pub breaks_on : k ≡ true → x ≡ past_breaks (i + 1) (drop (i + 1) s)
+    breaks_on e = breaks_by ∙ rw e
 
-    pub breaks_lf : (get_or s i 0 ≡ 13 → ⊥) → get_or s i 0 ≡ 10 → x ≡ past_breaks (i + 1) (drop (i + 1) s)
-    breaks_lf n e = simp (ne_eqb _ _ n, eq-eqb _ _ e) at breaks_by
-
-    pub breaks_end : (get_or s i 0 ≡ 13 → ⊥) → (get_or s i 0 ≡ 10 → ⊥) → i ≡ x
-    breaks_end n m = sym (simp (ne_eqb _ _ n, ne_eqb _ _ m) at breaks_by)
+    pub breaks_end : k ≡ false → i ≡ x
+    breaks_end e = sym (breaks_by ∙ rw e)

@@ -6,7 +6,9 @@ use Rattle.service.specs.Tests.{if}
 use Rattle.segments.specs.declared.Class.{Class}
 use Rattle.segments.specs.declared.Class.TheVariants.{Plain, Comp, Elem, Rel, Term}
 use Rattle.segments.specs.Classes.{class_of, is_break}
-use Rattle.segments.specs.SegmentList.{Piece, finished, unfinished, Mode, gap, first, inside, held, mode, ended, after, ends, start_in, emit, left, pieces, segments_after, all_finished}
+use Rattle.segments.specs.declared.Piece.{Piece}
+use Rattle.segments.specs.declared.Piece.TheVariants.{Finished as finished, Unfinished as unfinished}
+use Rattle.segments.specs.SegmentList.{Mode, gap, first, inside, held, mode, ended, after, ends, start_in, emit, left, pieces, segments_after, all_finished}
 use Rattle.segments.specs.Sync.{run}
 use Rattle.segments.specs.Laws.BytesLaws.{term_of}
 use Rattle.segments.specs.Laws.SyncLaws.{mode_of}

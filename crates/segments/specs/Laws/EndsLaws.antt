@@ -5,7 +5,7 @@ use Rattle.service.specs.declared.Service.{Service}
 use Rattle.service.specs.Tests.{if}
 use Rattle.segments.specs.declared.Class.{Class}
 use Rattle.segments.specs.declared.Class.TheVariants.{Plain, Comp, Elem, Rel, Term}
-use Rattle.segments.specs.declared.End.TheVariants.{At, None}
+use Rattle.std.specs.Prelude.{Some, None}
 use Rattle.segments.specs.Classes.{class_of, is_break}
 use Rattle.segments.specs.Forms.Bytes.{end_by, end_from, past_breaks}
 use Rattle.segments.specs.Sync.{rel_by, rel_next, rel_after}
@@ -45,14 +45,14 @@ ends_less v r b l k f =
     go j h e t = let g : suc j < suc k = omega arith in f.none (suc j) g e t
 
 -- ---- what is found
-further : (v : Service) (r q : Bool) (i b : ℕ) (l : List ℕ) (t : ℕ) → (r ≡ false → class_of v b ≡ Term → ⊥) → rel_next v r b ≡ q → end_from v q (suc i) l ≡ At t → EndsAt v q l (t - suc i) → EndsAt v r (b ∷ l) (t - i)
+further : (v : Service) (r q : Bool) (i b : ℕ) (l : List ℕ) (t : ℕ) → (r ≡ false → class_of v b ≡ Term → ⊥) → rel_next v r b ≡ q → end_from v q (suc i) l ≡ Some t → EndsAt v q l (t - suc i) → EndsAt v r (b ∷ l) (t - i)
 further v r q i b l t n c e f =
     let h = end_low v q (suc i) l t e in
     let m : suc (t - suc i) ≡ t - i = omega arith in
     subst (EndsAt v r (b ∷ l)) m (ends_more v r b l (t - suc i) n (subst (λ (u : Bool). EndsAt v u l (t - suc i)) (sym c) f))
 
-place_by : (v : Service) (i b : ℕ) (l : List ℕ) (t : ℕ) → ((q : Bool) → end_from v q (suc i) l ≡ At t → EndsAt v q l (t - suc i))
-    → (k : Class) → k ≡ class_of v b → end_by k i (end_from v true (suc i) l) (end_from v false (suc i) l) ≡ At t → EndsAt v false (b ∷ l) (t - i)
+place_by : (v : Service) (i b : ℕ) (l : List ℕ) (t : ℕ) → ((q : Bool) → end_from v q (suc i) l ≡ Some t → EndsAt v q l (t - suc i))
+    → (k : Class) → k ≡ class_of v b → end_by k i (end_from v true (suc i) l) (end_from v false (suc i) l) ≡ Some t → EndsAt v false (b ∷ l) (t - i)
 place_by v i b l t ih Plain c e = further v false false i b l t (λ w u. let x : Plain ≡ Term = c ∙ u in let z : ◌≡◌ {A = ℕ} 0 1 = cc in omega arith) (ap rel_by (sym c)) e (ih false e)
 place_by v i b l t ih Comp c e = further v false false i b l t (λ w u. let x : Comp ≡ Term = c ∙ u in let z : ◌≡◌ {A = ℕ} 0 1 = cc in omega arith) (ap rel_by (sym c)) e (ih false e)
 place_by v i b l t ih Elem c e = further v false false i b l t (λ w u. let x : Elem ≡ Term = c ∙ u in let z : ◌≡◌ {A = ℕ} 0 1 = cc in omega arith) (ap rel_by (sym c)) e (ih false e)
@@ -62,15 +62,15 @@ place_by v i b l t ih Term c e =
     let m : 0 ≡ t - i = omega arith in
     subst (EndsAt v false (b ∷ l)) m (ends_here v b l c)
 
-pub end_place : (v : Service) (r : Bool) (i : ℕ) (l : List ℕ) (t : ℕ) → end_from v r i l ≡ At t → EndsAt v r l (t - i)
+pub end_place : (v : Service) (r : Bool) (i : ℕ) (l : List ℕ) (t : ℕ) → end_from v r i l ≡ Some t → EndsAt v r l (t - i)
 unfolding end_from
 end_place v r i [] t e = absurd (let z : ◌≡◌ {A = ℕ} 0 1 = cc in omega arith)
 end_place v true i (b ∷ l) t e = further v true false i b l t (λ (w : true ≡ false) u. subst T w tt) refl e (end_place v false (suc i) l t e)
 end_place v false i (b ∷ l) t e = place_by v i b l t (λ (q : Bool) w. end_place v q (suc i) l t w) (class_of v b) refl e
 
 -- ---- what is there is found
-found_by_lem : (v : Service) (i b : ℕ) (l : List ℕ) (k : ℕ) → ((q : Bool) → EndsAt v q l k → end_from v q (suc i) l ≡ At (suc i + k))
-    → (c : Class) → c ≡ class_of v b → EndsAt v false (b ∷ l) (suc k) → end_by c i (end_from v true (suc i) l) (end_from v false (suc i) l) ≡ At (suc i + k)
+found_by_lem : (v : Service) (i b : ℕ) (l : List ℕ) (k : ℕ) → ((q : Bool) → EndsAt v q l k → end_from v q (suc i) l ≡ Some (suc i + k))
+    → (c : Class) → c ≡ class_of v b → EndsAt v false (b ∷ l) (suc k) → end_by c i (end_from v true (suc i) l) (end_from v false (suc i) l) ≡ Some (suc i + k)
 unfolding rel_after
 found_by_lem v i b l k ih Plain c f = ih false (subst (λ (u : Class). EndsAt v (rel_by u) l k) (sym c) (ends_less v false b l k f))
 found_by_lem v i b l k ih Comp c f = ih false (subst (λ (u : Class). EndsAt v (rel_by u) l k) (sym c) (ends_less v false b l k f))
@@ -78,13 +78,13 @@ found_by_lem v i b l k ih Elem c f = ih false (subst (λ (u : Class). EndsAt v (
 found_by_lem v i b l k ih Rel c f = ih true (subst (λ (u : Class). EndsAt v (rel_by u) l k) (sym c) (ends_less v false b l k f))
 found_by_lem v i b l k ih Term c f = let h : 0 < suc k = omega arith in absurd (f.none 0 h refl (sym c))
 
-pub place_end : (v : Service) (r : Bool) (i : ℕ) (l : List ℕ) (k : ℕ) → EndsAt v r l k → end_from v r i l ≡ At (i + k)
+pub place_end : (v : Service) (r : Bool) (i : ℕ) (l : List ℕ) (k : ℕ) → EndsAt v r l k → end_from v r i l ≡ Some (i + k)
 unfolding end_from rel_after
 place_end v r i [] k f = let h = f.within in absurd (omega arith)
 place_end v true i (b ∷ l) zero f = absurd (subst T f.loose tt)
 place_end v false i (b ∷ l) zero f = rw (f.term, add-zero)
-place_end v true i (b ∷ l) (suc k) f = place_end v false (suc i) l k (ends_less v true b l k f) ∙ ap At (suc-add i k ∙ sym (add-suc i k))
-place_end v false i (b ∷ l) (suc k) f = found_by_lem v i b l k (λ (q : Bool) w. place_end v q (suc i) l k w) (class_of v b) refl f ∙ ap At (suc-add i k ∙ sym (add-suc i k))
+place_end v true i (b ∷ l) (suc k) f = place_end v false (suc i) l k (ends_less v true b l k f) ∙ ap Some (suc-add i k ∙ sym (add-suc i k))
+place_end v false i (b ∷ l) (suc k) f = found_by_lem v i b l k (λ (q : Bool) w. place_end v q (suc i) l k w) (class_of v b) refl f ∙ ap Some (suc-add i k ∙ sym (add-suc i k))
 
 -- there is none exactly if the answer is `None`
 pub end_no_place : (v : Service) (r : Bool) (i : ℕ) (l : List ℕ) → end_from v r i l ≡ None → (k : ℕ) → EndsAt v r l k → ⊥

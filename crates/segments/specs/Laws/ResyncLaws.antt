@@ -9,7 +9,8 @@ use Rattle.service.specs.Tests.{if}
 use Rattle.segments.specs.declared.Class.{Class}
 use Rattle.segments.specs.declared.Class.TheVariants.{Plain, Comp, Elem, Rel, Term}
 use Rattle.segments.specs.Classes.{class_of, is_break}
-use Rattle.segments.specs.SegmentList.{Piece, Mode, gap, first, inside, held, mode, ended, after, ends, start_in, emit, left, pieces}
+use Rattle.segments.specs.declared.Piece.{Piece}
+use Rattle.segments.specs.SegmentList.{Mode, gap, first, inside, held, mode, ended, after, ends, start_in, emit, left, pieces}
 use Rattle.segments.specs.Sync.{run, shift, rel_by, rel_next, rel_after, Sound}
 
 -- ---- two texts one after the other

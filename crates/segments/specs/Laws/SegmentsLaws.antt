@@ -5,8 +5,8 @@ use Rattle.std.proofs.Common.{arith, sym, ◌∙◌, ap, length-drop, lt-ltb, le
 use Rattle.std.specs.Int.{w64}
 use Rattle.service.specs.declared.Service.{Service}
 use Rattle.service.specs.Tests.{if}
-use Rattle.segments.specs.declared.End.{End}
-use Rattle.segments.specs.declared.End.TheVariants.{At, None}
+use Rattle.std.specs.Prelude.{Option}
+use Rattle.std.specs.Prelude.{Some, None}
 use Rattle.segments.specs.declared.Segment.{Segment}
 use Rattle.segments.specs.declared.Segment.TheVariants.{Finished, Unfinished, Nothing}
 use Rattle.segments.specs.Forms.Bytes.{end_from, past_breaks}
@@ -19,7 +19,7 @@ module _ (v : Service) (s : List ℕ) (i : ℕ) where
   unfolding segment_at
   segment_nothing h = simp (le-ltb _ _ h)
 
-  module _ (h : i < length s) (k : End) (c : k ≡ end_from v false i (drop i s)) where
+  module _ (h : i < length s) (k : Option ℕ) (c : k ≡ end_from v false i (drop i s)) where
     pub segment_by_lem : segment_by s k ≡ segment_at v i s
     unfolding segment_at
     segment_by_lem = rw (c) (simp (lt-ltb _ _ h))
@@ -27,15 +27,15 @@ module _ (v : Service) (s : List ℕ) (i : ℕ) where
     pub segment_unfinished : k ≡ None → Unfinished ≡ segment_at v i s
     segment_unfinished e = rw e at segment_by_lem
 
-    pub segment_finished : (t : ℕ) → k ≡ At t → (n : ℕ) → n ≡ past_breaks (t + 1) (drop (t + 1) s) → Finished t n ≡ segment_at v i s
+    pub segment_finished : (t : ℕ) → k ≡ Some t → (n : ℕ) → n ≡ past_breaks (t + 1) (drop (t + 1) s) → Finished t n ≡ segment_at v i s
     segment_finished t e n q = rw q (rw e at segment_by_lem)
 
-    pub segment_fits : (t : ℕ) → k ≡ At t → length s < 2 ^ 64 → Fits w64 (t + 1)
+    pub segment_fits : (t : ℕ) → k ≡ Some t → length s < 2 ^ 64 → Fits w64 (t + 1)
     segment_fits t e f = let w = rest_at v s i k c t e in omega arith
 
 -- a segment begins at every byte
-never_nothing : (s : List ℕ) (k : End) → segment_by s k ≡ Nothing → ⊥
-never_nothing s (At t) e = let z : ◌≡◌ {A = ℕ} 0 1 = cc in omega arith
+never_nothing : (s : List ℕ) (k : Option ℕ) → segment_by s k ≡ Nothing → ⊥
+never_nothing s (Some t) e = let z : ◌≡◌ {A = ℕ} 0 1 = cc in omega arith
 never_nothing s None e = let z : ◌≡◌ {A = ℕ} 0 1 = cc in omega arith
 
 pub something : (v : Service) (s : List ℕ) (i : ℕ) → i < length s → segment_at v i s ≡ Nothing → ⊥
@@ -60,11 +60,11 @@ pub record Lies (s : List ℕ) (i t n : ℕ) : Type 0 where
   pub next : t < n
   pub within : n ≤ length s
 
-lies_by : (v : Service) (s : List ℕ) (i : ℕ) (k : End) → k ≡ end_from v false i (drop i s) → (t n : ℕ) → segment_by s k ≡ Finished t n → Lies s i t n
-lies_by v s i (At u) c t n e =
+lies_by : (v : Service) (s : List ℕ) (i : ℕ) (k : Option ℕ) → k ≡ end_from v false i (drop i s) → (t n : ℕ) → segment_by s k ≡ Finished t n → Lies s i t n
+lies_by v s i (Some u) c t n e =
     let a : u ≡ t = cc in
     let d : past_breaks (u + 1) (drop (u + 1) s) ≡ n = cc in
-    let w = rest_at v s i (At u) c u refl in
+    let w = rest_at v s i (Some u) c u refl in
     let lo = (skipped v (u + 1) (drop (u + 1) s)).low in
     let hi = breaks_high (u + 1) (drop (u + 1) s) in
     let m = length-drop (u + 1) s in record {
@@ -105,22 +105,22 @@ module _ (v : Service) (s : List ℕ) (i : ℕ) (k : Segment) (c : k ≡ segment
   segment_keep m h = let w = lies v s i k c t n e in omega arith
 
 -- ---- where the segment at a position ends
-finished_by : (s : List ℕ) (k : End) (t n : ℕ) → segment_by s k ≡ Finished t n → k ≡ At t
-finished_by s (At u) t n e = let a : u ≡ t = cc in ap At a
+finished_by : (s : List ℕ) (k : Option ℕ) (t n : ℕ) → segment_by s k ≡ Finished t n → k ≡ Some t
+finished_by s (Some u) t n e = let a : u ≡ t = cc in ap Some a
 finished_by s None t n e = absurd (let z : ◌≡◌ {A = ℕ} 0 1 = cc in omega arith)
 
-pub finished_end : (v : Service) (s : List ℕ) (i t n : ℕ) → Finished t n ≡ segment_at v i s → (i ≤ length s) × (end_from v false i (drop i s) ≡ At t)
+pub finished_end : (v : Service) (s : List ℕ) (i t n : ℕ) → Finished t n ≡ segment_at v i s → (i ≤ length s) × (end_from v false i (drop i s) ≡ Some t)
 finished_end v s i t n c = go (dec_lt i (length s))
   where
-    go : Dec (i < length s) → (i ≤ length s) × (end_from v false i (drop i s) ≡ At t)
+    go : Dec (i < length s) → (i ≤ length s) × (end_from v false i (drop i s) ≡ Some t)
     go (yes h) = let g : i ≤ length s = omega arith in (g, finished_by s (end_from v false i (drop i s)) t n (segment_by_lem v s i h (end_from v false i (drop i s)) refl ∙ sym c))
     go (no g) =
         let h : length s ≤ i = omega arith in
         let w = segment_nothing v s i h ∙ sym c in
         absurd (let z : ◌≡◌ {A = ℕ} 0 1 = cc in omega arith)
 
-unfinished_by : (s : List ℕ) (k : End) → segment_by s k ≡ Unfinished → k ≡ None
-unfinished_by s (At u) e = absurd (let z : ◌≡◌ {A = ℕ} 0 1 = cc in omega arith)
+unfinished_by : (s : List ℕ) (k : Option ℕ) → segment_by s k ≡ Unfinished → k ≡ None
+unfinished_by s (Some u) e = absurd (let z : ◌≡◌ {A = ℕ} 0 1 = cc in omega arith)
 unfinished_by s None e = refl
 
 pub unfinished_end : (v : Service) (s : List ℕ) (i : ℕ) → i < length s → Unfinished ≡ segment_at v i s → end_from v false i (drop i s) ≡ None

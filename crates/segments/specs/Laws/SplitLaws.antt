@@ -7,7 +7,8 @@ use Rattle.segments.specs.declared.Class.TheVariants.{Plain, Comp, Elem, Rel, Te
 use Rattle.service.specs.Tests.{if}
 use Rattle.segments.specs.Classes.{class_of, is_break}
 use Rattle.segments.specs.Forms.Bytes.{past_breaks}
-use Rattle.segments.specs.SegmentList.{Piece, Mode, gap, first, inside, held, mode, after, pieces, segments_from}
+use Rattle.segments.specs.declared.Piece.{Piece}
+use Rattle.segments.specs.SegmentList.{Mode, gap, first, inside, held, mode, after, pieces, segments_from}
 use Rattle.segments.specs.Sync.{run}
 use Rattle.segments.specs.Laws.BytesLaws.{class_term, rel_of}
 use Rattle.segments.specs.Laws.ResyncLaws.{run_append, pieces_append}

@@ -10,7 +10,8 @@ use Rattle.segments.specs.declared.Segment.{Segment}
 use Rattle.segments.specs.declared.Segment.TheVariants.{Finished, Unfinished, Nothing}
 use Rattle.segments.specs.Forms.Segments.{segment_at}
 use Rattle.segments.specs.Laws.SegmentsLaws.{Lies, lies, segment_nothing, something}
-use Rattle.segments.specs.SegmentList.{finished, unfinished, start_of, segments_from, starts_from, starts_of}
+use Rattle.segments.specs.declared.Piece.TheVariants.{Finished as finished, Unfinished as unfinished}
+use Rattle.segments.specs.SegmentList.{start_of, segments_from, starts_from, starts_of}
 use Rattle.segments.specs.Laws.ListLaws.{list_nothing, list_finished, list_unfinished}
 
 -- ---- what holds of the segments from every place on, by the segment there

@@ -5,11 +5,13 @@ use Rattle.service.specs.declared.Service.{Service}
 use Rattle.service.specs.Tests.{if}
 use Rattle.segments.specs.declared.Class.{Class}
 use Rattle.segments.specs.declared.Class.TheVariants.{Plain, Comp, Elem, Rel, Term}
-use Rattle.segments.specs.declared.End.{End}
-use Rattle.segments.specs.declared.End.TheVariants.{At, None}
+use Rattle.std.specs.Prelude.{Option}
+use Rattle.std.specs.Prelude.{Some, None}
 use Rattle.segments.specs.Classes.{class_of, is_break}
 use Rattle.segments.specs.Forms.Bytes.{end_by, end_from, past_breaks}
-use Rattle.segments.specs.SegmentList.{Piece, finished, unfinished, Mode, gap, first, inside, held, emit, left, pieces, segments_from}
+use Rattle.segments.specs.declared.Piece.{Piece}
+use Rattle.segments.specs.declared.Piece.TheVariants.{Finished as finished, Unfinished as unfinished}
+use Rattle.segments.specs.SegmentList.{Mode, gap, first, inside, held, emit, left, pieces, segments_from}
 use Rattle.segments.specs.Laws.ResyncLaws.{gap_start}
 
 abbrev pub mode_of : Bool → Mode
@@ -42,8 +44,8 @@ here v st i b l c =
       same = rw (← c, n) (ap (λ (u : List Piece). emit true st i u) (gap_start v st 0 (suc i) l));
     }
 
-found_by_lem : (v : Service) (st i b : ℕ) (l : List ℕ) (t : ℕ) → ((q : Bool) → end_from v q (suc i) l ≡ At t → Found v q st (suc i) l t)
-    → (k : Class) → k ≡ class_of v b → end_by k i (end_from v true (suc i) l) (end_from v false (suc i) l) ≡ At t → Found v false st i (b ∷ l) t
+found_by_lem : (v : Service) (st i b : ℕ) (l : List ℕ) (t : ℕ) → ((q : Bool) → end_from v q (suc i) l ≡ Some t → Found v q st (suc i) l t)
+    → (k : Class) → k ≡ class_of v b → end_by k i (end_from v true (suc i) l) (end_from v false (suc i) l) ≡ Some t → Found v false st i (b ∷ l) t
 unfolding pieces
 found_by_lem v st i b l t ih Plain c e = further v false false st i b l t (rw (← c)) (ih false e)
 found_by_lem v st i b l t ih Comp c e = further v false false st i b l t (rw (← c)) (ih false e)
@@ -51,7 +53,7 @@ found_by_lem v st i b l t ih Elem c e = further v false false st i b l t (rw (�
 found_by_lem v st i b l t ih Rel c e = further v false true st i b l t (rw (← c)) (ih true e)
 found_by_lem v st i b l t ih Term c e = let q : i ≡ t = cc in subst (Found v false st i (b ∷ l)) q (here v st i b l c)
 
-pub end_found_lem : (v : Service) (r : Bool) (st i : ℕ) (l : List ℕ) (t : ℕ) → end_from v r i l ≡ At t → Found v r st i l t
+pub end_found_lem : (v : Service) (r : Bool) (st i : ℕ) (l : List ℕ) (t : ℕ) → end_from v r i l ≡ Some t → Found v r st i l t
 unfolding end_from pieces
 end_found_lem v r st i [] t e = absurd (let z : ◌≡◌ {A = ℕ} 0 1 = cc in omega arith)
 end_found_lem v true st i (b ∷ l) t e = further v true false st i b l t refl (end_found_lem v false st (suc i) l t e)
@@ -131,7 +133,7 @@ pub record Ended (v : Service) (s : List ℕ) (i t : ℕ) : Type 0 where
   pub high : t < length s
   pub same : segments_from v s i ≡ finished i t ∷ pieces v gap 0 (t + 1) (drop (t + 1) s)
 
-pub rest_at : (v : Service) (s : List ℕ) (i : ℕ) (k : End) → k ≡ end_from v false i (drop i s) → (t : ℕ) → k ≡ At t → Ended v s i t
+pub rest_at : (v : Service) (s : List ℕ) (i : ℕ) (k : Option ℕ) → k ≡ end_from v false i (drop i s) → (t : ℕ) → k ≡ Some t → Ended v s i t
 rest_at v s i k c t e =
     let f : Found v false i i (drop i s) t = end_found_lem v false i i (drop i s) t (sym c ∙ e) in
     let h = f.low in
@@ -143,7 +145,7 @@ rest_at v s i k c t e =
       same = first_inside v i i (drop i s) p ∙ f.same ∙ ap (emit true i t) (ap (pieces v gap 0 (suc t)) (drop-drop (suc t - i) i s ∙ ap (λ (n : ℕ). drop n s) m) ∙ rw add-one refl);
     }
 
-pub rest_none : (v : Service) (s : List ℕ) (i : ℕ) → i < length s → (k : End) → k ≡ end_from v false i (drop i s) → k ≡ None → segments_from v s i ≡ unfinished i (length s) ∷ []
+pub rest_none : (v : Service) (s : List ℕ) (i : ℕ) → i < length s → (k : Option ℕ) → k ≡ end_from v false i (drop i s) → k ≡ None → segments_from v s i ≡ unfinished i (length s) ∷ []
 rest_none v s i h k c e =
     let n = length-drop i s in
     let p : 0 < length (drop i s) = omega arith in

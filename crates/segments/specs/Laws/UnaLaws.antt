@@ -5,8 +5,7 @@ use Rattle.std.proofs.Math.Path.{refl, ap}
 use Rattle.std.proofs.Math.Bool.{true, false}
 use Rattle.std.proofs.lemmas.Bool.{eqb-false}
 use Rattle.service.specs.declared.Service.{Service}
-use Rattle.service.specs.declared.Characters.TheVariants.{Fit}
-use Rattle.service.specs.Service.{is_alphanumeric, among, distinct, serving_by, Fits, characters_of}
+use Rattle.service.specs.Service.{Fit, is_alphanumeric, among, distinct, serving_by, Fits, characters_of}
 use Rattle.service.specs.Laws.ServiceLaws.{and_left, and_right, neither_left, neither_right}
 use Rattle.service.specs.Laws.FitLaws.{characters_fit}
 use Rattle.service.specs.Laws.UnaLaws.{Names, named, nine, serves_no_letter}
@@ -15,7 +14,9 @@ use Rattle.segments.specs.declared.Class.{Class}
 use Rattle.segments.specs.declared.Class.TheVariants.{Plain, Comp, Elem, Rel, Term}
 use Rattle.segments.specs.Classes.{class_of}
 use Rattle.segments.specs.Laws.BytesLaws.{class_elem, class_comp, class_rel}
-use Rattle.segments.specs.SegmentList.{Piece, finished, gap, inside, mode, ended, emit, pieces, segments_after}
+use Rattle.segments.specs.declared.Piece.{Piece}
+use Rattle.segments.specs.declared.Piece.TheVariants.{Finished as finished}
+use Rattle.segments.specs.SegmentList.{gap, inside, mode, ended, emit, pieces, segments_after}
 use Rattle.segments.specs.Laws.ResyncLaws.{gap_start}
 use Rattle.segments.specs.Laws.FitLaws.{plain_by, plain_outside, term_class}
 

@@ -3,8 +3,8 @@ use Rattle.std.specs.Prelude.{ℕ, suc, ◌+◌, ◌≤◌, ◌<◌, ◌≡◌, 
 use Rattle.std.proofs.Common.{add-suc, arith, sym, ◌∙◌, ap, subst, length-drop, length-append}
 use Rattle.service.specs.declared.Service.{Service}
 use Rattle.service.specs.Tests.{if}
-use Rattle.segments.specs.declared.End.{End}
-use Rattle.segments.specs.declared.End.TheVariants.{At, None}
+use Rattle.std.specs.Prelude.{Option}
+use Rattle.std.specs.Prelude.{Some, None}
 use Rattle.segments.specs.declared.Segment.TheVariants.{Finished}
 use Rattle.segments.specs.Forms.Bytes.{end_from, past_breaks}
 use Rattle.segments.specs.Forms.Segments.{segment_by, segment_at}
@@ -67,11 +67,11 @@ module _ (v : Service) (p q z : List ℕ) (i t n : ℕ) where
       ∙ breaks_shift (length p) (t + 1) (drop (t + 1) q ++ z)
       ∙ ap (λ (m : ℕ). length p + m) (breaks_more v (t + 1) (drop (t + 1) q) z d ∙ sym e))
 
-  end_of : (k : End) → k ≡ end_from v false i (drop i q) → segment_by q k ≡ Finished t n → (end_from v false i (drop i q) ≡ At t) × (n ≡ past_breaks (t + 1) (drop (t + 1) q))
-  end_of (At u) c e =
+  end_of : (k : Option ℕ) → k ≡ end_from v false i (drop i q) → segment_by q k ≡ Finished t n → (end_from v false i (drop i q) ≡ Some t) × (n ≡ past_breaks (t + 1) (drop (t + 1) q))
+  end_of (Some u) c e =
       let a : u ≡ t = cc in
       let d : past_breaks (u + 1) (drop (u + 1) q) ≡ n = cc in
-      (sym c ∙ ap At a, sym d ∙ ap (λ (m : ℕ). past_breaks (m + 1) (drop (m + 1) q)) a)
+      (sym c ∙ ap Some a, sym d ∙ ap (λ (m : ℕ). past_breaks (m + 1) (drop (m + 1) q)) a)
   end_of None c e = absurd (let w : ◌≡◌ {A = ℕ} 0 1 = cc in omega arith)
 
   pub segment_in_whole : segment_at v i q ≡ Finished t n → n < length q → segment_at v (length p + i) (p ++ q ++ z) ≡ Finished (length p + t) (length p + n)

@@ -2,9 +2,8 @@
 use Rattle.std.specs.Prelude.{ℕ, ◌≤◌, ◌≡◌, refl, ◌⊎◌, List, [], ◌∷◌, Bool, true, false, not, ◌&&◌, ◌||◌, length, T, eqb, leb}
 use Rattle.std.proofs.Common.{arith, sym, subst, inl, inr, leb-true}
 use Rattle.service.specs.declared.Service.{Service}
-use Rattle.service.specs.declared.Characters.TheVariants.{Fit, Unfit}
-use Rattle.service.specs.Service.{plain_service, is_alphanumeric, serves, is_none, is_mark, among, distinct, present_by, fit, service_of, serving_by, Fits, fitting, named_by, begins_una, characters_of}
-use Rattle.service.specs.Laws.ServiceLaws.{and_left, and_right}
+use Rattle.service.specs.Service.{Fit, Unfit, plain_service, is_alphanumeric, serves, is_none, is_mark, among, distinct, present_by, fit, service_of, serving_by, Fits, fitting, named_by, begins_una, characters_of}
+use Rattle.service.specs.Laws.ServiceLaws.{same_fit, and_left, and_right}
 use Rattle.service.specs.Tests.{if}
 
 -- ---- without the mark the others still differ
@@ -80,9 +79,8 @@ plain_fits = record { component = refl; element = refl; terminator = refl; relea
 
 named_by_lem : (c e m r p t : ℕ) (k : Bool) → fit c e m r p t ≡ k → (v : Service) (n : ℕ) → if k (Fit (service_of c e r t) 9) Unfit ≡ Fit v n → Fits v × (n ≡ 9)
 named_by_lem c e m r p t true h v n q =
-    let w : service_of c e r t ≡ v = cc in
-    let x : n ≡ 9 = cc in
-    (subst Fits w (fit_bytes c e m r p t h), x)
+    let w = same_fit (service_of c e r t) v 9 n q in
+    (subst Fits w.0 (fit_bytes c e m r p t h), sym w.1)
 named_by_lem c e m r p t false h v n q = absurd (let z : ◌≡◌ {A = ℕ} 0 1 = cc in omega arith)
 
 by_una : (k j : Bool) (c e m r p t : ℕ) (v : Service) (n : ℕ) → if k (if j (named_by c e m r p t) Unfit) (Fit plain_service 0) ≡ Fit v n → Fits v × ((n ≡ 0) ⊎ (n ≡ 9))
@@ -90,9 +88,8 @@ unfolding named_by
 by_una true true c e m r p t v n q = let w = named_by_lem c e m r p t (fit c e m r p t) refl v n q in (w.0, inr w.1)
 by_una true false c e m r p t v n q = absurd (let z : ◌≡◌ {A = ℕ} 0 1 = cc in omega arith)
 by_una false j c e m r p t v n q =
-    let w : plain_service ≡ v = cc in
-    let x : n ≡ 0 = cc in
-    (subst Fits w plain_fits, inl x)
+    let w = same_fit plain_service v 0 n q in
+    (subst Fits w.0 plain_fits, inl (sym w.1))
 
 -- the characters of an interchange, where it has any, are fit; they are named by nine bytes or by none
 pub characters_fit : (s : List ℕ) (v : Service) (n : ℕ) → characters_of s ≡ Fit v n → Fits v × ((n ≡ 0) ⊎ (n ≡ 9))

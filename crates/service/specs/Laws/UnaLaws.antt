@@ -5,9 +5,8 @@ use Rattle.std.proofs.Common.{sym, ◌∙◌, ap, subst, ⊎_elim}
 use Rattle.std.proofs.Math.ListN.{length, length-append, get_or-append}
 use borrow.Author.Tests.{le-leb, leb-true, eqb-true, eqb-false}
 use Rattle.service.specs.declared.Service.{Service}
-use Rattle.service.specs.declared.Characters.TheVariants.{Fit, Unfit}
-use Rattle.service.specs.Service.{plain_service, within, is_alphanumeric, serves, is_none, is_mark, among, distinct, present_by, fit, service_of, named_by, begins_una, characters_of}
-use Rattle.service.specs.Laws.ServiceLaws.{and_left, and_right, neither_left, neither_right, characters_plain}
+use Rattle.service.specs.Service.{Fit, Unfit, plain_service, within, is_alphanumeric, serves, is_none, is_mark, among, distinct, present_by, fit, service_of, named_by, begins_una, characters_of}
+use Rattle.service.specs.Laws.ServiceLaws.{same_fit, and_left, and_right, neither_left, neither_right, characters_plain}
 use Rattle.service.specs.Laws.FitLaws.{characters_fit}
 use Rattle.service.specs.Tests.{if}
 
@@ -66,7 +65,7 @@ pub record Named (s : List ℕ) (v : Service) : Type 0 where
   pub names : Names (get_or s 3 0) (get_or s 4 0) (get_or s 5 0) (get_or s 6 0) (get_or s 7 0) (get_or s 8 0) v
 
 names_by : (c e m r p t : ℕ) (k : Bool) → fit c e m r p t ≡ k → (v : Service) → if k (Fit (service_of c e r t) 9) Unfit ≡ Fit v 9 → Names c e m r p t v
-names_by c e m r p t true h v q = let w : service_of c e r t ≡ v = cc in subst (Names c e m r p t) w (names_fit c e m r p t h)
+names_by c e m r p t true h v q = subst (Names c e m r p t) (same_fit (service_of c e r t) v 9 9 q).0 (names_fit c e m r p t h)
 names_by c e m r p t false h v q = absurd (let z : ◌≡◌ {A = ℕ} 0 1 = cc in omega arith)
 
 named_by_lem : (s : List ℕ) (v : Service) (k j : Bool) → begins_una s ≡ k → leb 9 (length s) ≡ j
@@ -82,7 +81,7 @@ named_by_lem s v true true b l q =
       names = names_by (get_or s 3 0) (get_or s 4 0) (get_or s 5 0) (get_or s 6 0) (get_or s 7 0) (get_or s 8 0) (fit (get_or s 3 0) (get_or s 4 0) (get_or s 5 0) (get_or s 6 0) (get_or s 7 0) (get_or s 8 0)) refl v q;
     }
 named_by_lem s v true false b l q = absurd (let z : ◌≡◌ {A = ℕ} 0 1 = cc in omega arith)
-named_by_lem s v false j b l q = let x : ◌≡◌ {A = ℕ} 0 9 = cc in absurd (omega arith)
+named_by_lem s v false j b l q = let x = (same_fit plain_service v 0 9 q).1 in absurd (omega arith)
 
 pub named : (s : List ℕ) (v : Service) → characters_of s ≡ Fit v 9 → Named s v
 unfolding characters_of
@@ -114,7 +113,7 @@ serves_no_letter b x a e q = serves_by (within 33 126 x) (is_alphanumeric x) e (
 
 -- ---- the characters are said by the first bytes
 unnamed_by : (c e m r p t : ℕ) (k : Bool) (v : Service) → if k (Fit (service_of c e r t) 9) Unfit ≡ Fit v 0 → ⊥
-unnamed_by c e m r p t true v q = let x : ◌≡◌ {A = ℕ} 9 0 = cc in omega arith
+unnamed_by c e m r p t true v q = let x = (same_fit (service_of c e r t) v 9 0 q).1 in omega arith
 unnamed_by c e m r p t false v q = let z : ◌≡◌ {A = ℕ} 0 1 = cc in omega arith
 
 without_by : (k j : Bool) (c e m r p t : ℕ) (v : Service) → if k (if j (named_by c e m r p t) Unfit) (Fit plain_service 0) ≡ Fit v 0 → k ≡ false

@@ -1,20 +1,24 @@
 -- The loops that find a segment's number and a segment's place, turn by turn. Assumes nothing.
-use Prim.Native.Nat.{ℕ, suc, zero, ◌+◌, ◌-◌, ◌≤◌, ◌<◌}
+use Prim.Native.Nat.{ℕ, suc, zero, ◌+◌, ◌≤◌, ◌<◌}
 use native.Mathlib.Omega.{arith}
-use Rattle.std.specs.Prelude.{◌≡◌, Bool, get_or, ltb}
+use Rattle.std.specs.Prelude.{◌≡◌, Bool, get_or, ltb, Option, None, Some, slice_get, map}
+use Rattle.segments.specs.SegmentList.{start_of}
+use Rattle.segments.specs.declared.Segments.{Segments}
+use Rattle.segments.specs.Left.{segments_left, Steps}
+use Prim.Native.Nat.{◌^◌}
+use Rattle.std.proofs.Common.{Fits, subst}
+use Rattle.std.specs.Int.{w64}
 use Rattle.std.proofs.Math.Path.{refl, sym, ap}
 use Rattle.std.proofs.Common.{◌∙◌}
 use mathlib.Core.List.{List, [], ◌∷◌}
 use Rattle.std.proofs.Math.ListN.{length}
 use borrow.Author.Tests.{lt-ltb, le-ltb}
 use Rattle.service.specs.declared.Service.{Service}
-use Rattle.segments.specs.declared.Segment.{Segment}
 use Rattle.segments.specs.declared.Segment.TheVariants as segment
-use Rattle.segments.specs.Forms.Segments.{segment_at}
-use Rattle.segments.specs.Laws.SegmentsLaws.{lies}
-use Rattle.segments.specs.SegmentList.{Piece, finished, segments_from, starts_from, starts_of, start_at}
-use Rattle.segments.specs.Laws.ListLaws.{list_nothing, list_finished, list_unfinished}
-use Rattle.segments.specs.Laws.StartsLaws.{by_place, starts_past, starts_nothing, starts_finished, starts_unfinished, starts_here, starts_within}
+use Rattle.segments.specs.declared.Piece.{Piece}
+use Rattle.segments.specs.declared.Piece.TheVariants.{Finished as finished, Unfinished as unfinished}
+use Rattle.segments.specs.SegmentList.{segments_from, starts_from, starts_of, start_at}
+use Rattle.segments.specs.Laws.StartsLaws.{by_place, starts_count, starts_few, starts_past, starts_finished, starts_unfinished, starts_within}
 use Rattle.tally.specs.Places.{next_start, pass_by, passed}
 
 -- the segments from a place on begin there, or none is left
@@ -22,30 +26,66 @@ pub starts : (v : Service) (m : List ℕ) (n : ℕ) → n ≤ length m → next_
 starts v m = by_place v m (λ n. n ≤ length m → next_start (length m) (segments_from v m n) ≡ n) (λ n g q h. rw q (omega arith)) (λ n g e q h. rw q refl) (λ n t k e w q ih h. rw q refl)
 
 -- ---- the number of a segment
-module _ (x : ℕ) (v : Service) (m : List ℕ) (at n i : ℕ) (inv : x ≡ n + passed (length m) at (segments_from v m i)) (k : Segment) (c : k ≡ segment_at v i m) where
-  pub passed_nothing : k ≡ segment.Nothing → n ≡ x
-  unfolding passed
-  passed_nothing e = sym (inv ∙ ap (λ (l : List Piece). n + passed (length m) at l) (list_nothing v m i k c e) ∙ omega arith)
+-- what the loop keeps: n segments are passed, and the reader stays in the text
+pub record Passing (x : ℕ) (v : Service) (m : List ℕ) (at n : ℕ) (r : Segments) : Type 0 where
+  pub count : x ≡ n + passed (length m) at (segments_left r)
+  pub few : n + length (segments_left r) ≤ length m
+  pub service : r.text.service ≡ v
+  pub bytes : r.text.bytes.now ≡ m
+  pub within : r.at ≤ length m
 
-  pub passed_unfinished : k ≡ segment.Unfinished → n ≡ x
-  unfolding passed
-  passed_unfinished e = sym (inv ∙ ap (λ (l : List Piece). n + passed (length m) at l) (list_unfinished v m i k c e) ∙ omega arith)
+pub passing_start : (v : Service) (m : List ℕ) (at : ℕ) (r : Segments) → r.text.service ≡ v → r.text.bytes.now ≡ m → r.at ≡ 0 → Passing (passed (length m) at (segments_from v m 0)) v m at 0 r
+passing_start v m at r s b z =
+    let a = starts_count v m 0 in
+    let c = starts_few v m 0 in
+    let e : segments_left r ≡ segments_from v m 0 = rw (s, b, z) in
+    record { count = ap (passed (length m) at) (sym e) ∙ omega arith; few = rw e (omega arith); service = s; bytes = b; within = omega arith }
 
-  module _ (t j : ℕ) (e : k ≡ segment.Finished t j) where
-    passed_by : x ≡ n + pass_by (ltb at j) (passed (length m) at (segments_from v m j))
+module _ (x : ℕ) (v : Service) (m : List ℕ) (at n : ℕ) (r q : Segments) (inv : Passing x v m at n r) where
+  pub passed_end : segments_left r ≡ [] → n ≡ x
+  unfolding passed
+  passed_end e = sym (inv.count ∙ ap (λ (l : List Piece). n + passed (length m) at l) e ∙ omega arith)
+
+  pub passed_unfinished : (a e : ℕ) → segments_left r ≡ unfinished a e ∷ segments_left q → n ≡ x
+  unfolding passed
+  passed_unfinished a e w = sym (inv.count ∙ ap (λ (l : List Piece). n + passed (length m) at l) w ∙ omega arith)
+
+  module _ (a t : ℕ) (w : Steps r (Some (finished a t)) q) where
+    after_text : (q.text.service ≡ v) × (q.text.bytes.now ≡ m) × (q.at ≤ length m)
+    after_text =
+        let b = ap (λ z. z.bytes.now) w.same ∙ inv.bytes in
+        let i = inv.within in (
+          ap (λ z. z.service) w.same ∙ inv.service,
+          b,
+          subst (λ l. q.at ≤ length l) b (w.within (rw inv.bytes i)),
+        )
+
+    passed_by : x ≡ n + pass_by (ltb at q.at) (passed (length m) at (segments_left q))
     unfolding passed
     passed_by =
-        let w = lies v m i k c t j e in
-        let h : j ≤ length m = omega arith in
-        inv
-        ∙ ap (λ (l : List Piece). n + passed (length m) at l) (list_finished v m i k c t j e)
-        ∙ ap (λ (s : ℕ). n + pass_by (ltb at s) (passed (length m) at (segments_from v m j))) (starts v m j h)
+        let f = after_text in
+        let k : next_start (length m) (segments_left q) ≡ q.at = rw (f.0, f.1) (starts v m q.at f.2) in
+        inv.count
+        ∙ ap (λ (l : List Piece). n + passed (length m) at l) w.yields
+        ∙ ap (λ (s : ℕ). n + pass_by (ltb at s) (passed (length m) at (segments_left q))) k
 
-    pub passed_here : at < j → n ≡ x
-    passed_here h = sym (passed_by ∙ ap (λ (b : Bool). n + pass_by b (passed (length m) at (segments_from v m j))) (lt-ltb at j h) ∙ omega arith)
+    pub passed_here : at < q.at → n ≡ x
+    passed_here h = sym (passed_by ∙ ap (λ (b : Bool). n + pass_by b (passed (length m) at (segments_left q))) (lt-ltb at q.at h) ∙ omega arith)
 
-    pub passed_on : j ≤ at → x ≡ n + 1 + passed (length m) at (segments_from v m j)
-    passed_on h = passed_by ∙ ap (λ (b : Bool). n + pass_by b (passed (length m) at (segments_from v m j))) (le-ltb at j h) ∙ omega arith
+    pub passed_fits : length m < 2 ^ 64 → Fits w64 (n + 1)
+    passed_fits h = let i = inv.few in let z = ap length w.yields in record { fits = omega arith }
+
+    pub passed_on : q.at ≤ at → Passing x v m at (n + 1) q
+    passed_on h =
+        let f = after_text in
+        let i = inv.few in
+        let z = ap length w.yields in record {
+          count = passed_by ∙ ap (λ (b : Bool). n + pass_by b (passed (length m) at (segments_left q))) (le-ltb at q.at h) ∙ omega arith;
+          few = omega arith;
+          service = f.0;
+          bytes = f.1;
+          within = f.2;
+        }
 
 -- the number of the segment that begins at a start
 module _ (v : Service) (m : List ℕ) where
@@ -72,34 +112,16 @@ module _ (v : Service) (m : List ℕ) where
   passed_start = numbered 0
 
 -- ---- the place of a segment
-none_there : (j d : ℕ) → get_or [] j d ≡ d
-none_there zero d = refl
-none_there (suc j) d = refl
+abbrev pub place_by : ℕ → Option Piece → ℕ
+place_by d None = d
+place_by d (Some p) = start_of p
 
-module _ (x : ℕ) (v : Service) (m : List ℕ) (a n i : ℕ) (inv : x ≡ get_or (starts_from v m i) (a - n) (length m)) where
-  pub after_here : a ≤ n → i ≤ length m → i ≡ x
-  after_here h g =
-      let e : a - n ≡ 0 = omega arith in
-      sym (inv ∙ ap (λ (d : ℕ). get_or (starts_from v m i) d (length m)) e ∙ starts_here v m i g)
+nth_by : (d j : ℕ) (l : List Piece) → place_by d (slice_get l j) ≡ get_or (map start_of l) j d
+nth_by d zero [] = refl
+nth_by d (suc j) [] = refl
+nth_by d zero (p ∷ l) = refl
+nth_by d (suc j) (p ∷ l) = nth_by d j l
 
-  module _ (h : n < a) (k : Segment) (c : k ≡ segment_at v i m) where
-    less : a - n ≡ suc (a - (n + 1))
-    less = omega arith
-
-    on_by : (y : ℕ) (l : List ℕ) → starts_from v m i ≡ y ∷ l → x ≡ get_or l (a - (n + 1)) (length m)
-    on_by y l e = inv ∙ ap (λ (d : ℕ). get_or (starts_from v m i) d (length m)) less ∙ ap (λ (q : List ℕ). get_or q (suc (a - (n + 1))) (length m)) e
-
-    pub after_nothing : k ≡ segment.Nothing → length m ≡ x
-    after_nothing e = sym (inv ∙ ap (λ (l : List ℕ). get_or l (a - n) (length m)) (starts_nothing v m i k c e) ∙ none_there (a - n) (length m))
-
-    pub after_unfinished : k ≡ segment.Unfinished → length m ≡ x
-    after_unfinished e = sym (on_by i [] (starts_unfinished v m i k c e) ∙ none_there (a - (n + 1)) (length m))
-
-    pub after_on : (t j : ℕ) → k ≡ segment.Finished t j → x ≡ get_or (starts_from v m j) (a - (n + 1)) (length m)
-    after_on t j e = on_by i (starts_from v m j) (starts_finished v m i k c t j e)
-
-    pub after_within : (t j : ℕ) → k ≡ segment.Finished t j → j ≤ length m
-    after_within t j e = let w = lies v m i k c t j e in omega arith
-
-pub after_start : (a d : ℕ) (l : List ℕ) → get_or l a d ≡ get_or l (a - 0) d
-after_start a d l = let w : a - 0 ≡ a = omega arith in rw w refl
+pub nth_start : (v : Service) (m : List ℕ) (j : ℕ) (r : Option Piece) → r ≡ slice_get (segments_from v m 0) j → place_by (length m) r ≡ start_at v m j
+unfolding starts_from
+nth_start v m j r e = ap (place_by (length m)) e ∙ nth_by (length m) j (segments_from v m 0)

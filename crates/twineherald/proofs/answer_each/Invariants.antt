@@ -1,10 +1,6 @@
--- answer_each: what its loop keeps, and what falls.
-use Rattle.std.proofs.Common.{length, ◌-◌}
+-- answer_each: what its loop keeps.
 use Rattle.twineherald.proofs.answer_each.Given as goal
 use Rattle.twineherald.specs.Forms.Upto.{AnsweredUpto}
 
 abbrev pub invariant-loop-i : goal.invariant-loop-i
 invariant-loop-i l = AnsweredUpto l.bytes l.i l.positions l.initial.answers l.answers
-
-abbrev pub decreases-loop-i : goal.decreases-loop-i
-decreases-loop-i l = length l.positions - l.i

@@ -1,7 +1,6 @@
-use Rattle.report.specs.Laws.FewLaws.{report_few}
-use Rattle.twineherald.specs.Laws.NumbersLaws.{check_fit, check_unfit}
+use Rattle.twineherald.specs.Laws.LentLaws.{checked_back}
 use Rattle.std.proofs.Common.{rules}
 use Rattle.twineherald.proofs.twineherald_check.Goals as goal
 
-pub returns-in-Fit : goal.returns-in-Fit
-returns-in-Fit c = search (report_few, check_fit, check_unfit, rules)
+pub returns-in-Some : goal.returns-in-Some
+returns-in-Some c = search (checked_back, rules)

@@ -1,10 +1,10 @@
 -- A step whose numbers 32 bits hold.
 use Rattle.std.specs.Prelude.{ℕ, ◌≤◌}
 use Rattle.interchange.specs.declared.Refusal.{Refusal}
-use Rattle.report.specs.declared.Report.{Report}
+use Rattle.report.specs.Answers.{Report}
 use Rattle.report.specs.Forms.Few.{FewIn}
-use Rattle.walk.specs.declared.Walked.{Walked}
-use Rattle.walk.specs.declared.Walked.TheVariants as walk
+use Rattle.walk.specs.Steps.{Walked}
+use Rattle.walk.specs.Steps as walk
 
 -- a message that was found begins and ends within 1,048,576 bytes, and its counts are few (`walk_few` of FewLaws)
 pub data FewWalked : Walked → Type 0 where

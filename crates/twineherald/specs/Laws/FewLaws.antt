@@ -1,14 +1,15 @@
 -- 32 bits hold the numbers of a step. Assumes nothing.
-use Rattle.std.specs.Prelude.{ℕ, ◌≤◌, ◌≡◌, List}
+use Rattle.std.specs.Prelude.{ℕ, ◌≤◌, ◌≡◌, List, Some, Ok}
 use Rattle.std.proofs.Common.{arith, subst}
 use Rattle.lent.specs.Lists.{Lists}
-use Rattle.report.specs.declared.Report.{Report}
+use Rattle.report.specs.Answers.{Report}
 use Rattle.report.specs.Forms.Few.{FewIn}
 use Rattle.report.specs.Laws.FewLaws.{report_few}
-use Rattle.walk.specs.declared.Walked.{Walked}
-use Rattle.walk.specs.declared.Walked.TheVariants as walk
+use Rattle.walk.specs.declared.Walked as code
+use Rattle.walk.specs.Steps.{Walked}
+use Rattle.walk.specs.Steps as walk
 use Rattle.walk.specs.Walks.{Walks, walks_message, walks_nothing, walks_refused, Judges, judges}
-use Rattle.walk.specs.Laws.PlaceLaws.{found_small}
+use Rattle.walk.specs.Laws.PlaceLaws.{found_small, walked_start, walked_end, walked_report}
 use Rattle.twineherald.specs.Forms.Few.{FewWalked, few_message, few_nothing, few_refused}
 
 pub walk_few : (b : List ℕ) (at : ℕ) (x x' : Lists) (w : Walked) → Walks b at x x' w → FewWalked w
@@ -26,19 +27,19 @@ record Bounds (a e : ℕ) (r : Report) : Type 0 where
 
 bounds : (w : Walked) → FewWalked w → (a e : ℕ) (r : Report) → w ≡ walk.Message a e r → Bounds a e r
 bounds w (few_message b c y h g k) a e r q =
-    let i : b ≡ a = cc in
-    let j : c ≡ e = cc in
-    let l : y ≡ r = cc in
+    let i = walked_start b c y a e r q in
+    let j = walked_end b c y a e r q in
+    let l = walked_report b c y a e r q in
     record { start = omega arith; end = omega arith; counts = subst FewIn l k }
 bounds w few_nothing a e r q = absurd (let i : ◌≡◌ {A = ℕ} 0 1 = cc in omega arith)
 bounds w (few_refused f) a e r q = absurd (let i : ◌≡◌ {A = ℕ} 0 1 = cc in omega arith)
 
-module _ (w : Walked) (h : FewWalked w) (a e : ℕ) (r : Report) (q : w ≡ walk.Message a e r) where
-  pub start_small : a ≤ 1048576
-  start_small = (bounds w h a e r q).start
+module _ (w : Walked) (h : FewWalked w) (m : code.Walked) (q : w ≡ Ok (Some m)) where
+  pub start_small : m.start ≤ 1048576
+  start_small = (bounds w h m.start m.end m.report q).start
 
-  pub end_small : e ≤ 1048576
-  end_small = (bounds w h a e r q).end
+  pub end_small : m.end ≤ 1048576
+  end_small = (bounds w h m.start m.end m.report q).end
 
-  pub counts_few : FewIn r
-  counts_few = (bounds w h a e r q).counts
+  pub counts_few : FewIn m.report
+  counts_few = (bounds w h m.start m.end m.report q).counts

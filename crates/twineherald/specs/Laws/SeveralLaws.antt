@@ -1,7 +1,7 @@
 -- The walk from each of several positions: the ways through the loop, and that no second answer meets `SteppedEach`. Assumes nothing.
 use Rattle.std.specs.Prelude.{ℕ, suc, ◌+◌, ◌≤◌, ◌<◌, ◌≡◌, refl, List, [], ◌∷◌, length, get_or, set}
 use Rattle.std.proofs.Common.{arith, sym, ap, ◌∙◌, subst}
-use Rattle.walk.specs.declared.Walked.{Walked}
+use Rattle.walk.specs.Steps.{Walked}
 use Rattle.walk.specs.Walks.{Judges, judges}
 use Rattle.walk.specs.Laws.JudgesLaws.{one_judge}
 use Rattle.twineherald.specs.declared.StepNumbers.{StepNumbers}

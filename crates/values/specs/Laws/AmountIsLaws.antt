@@ -1,23 +1,16 @@
 -- `amount_of` answers the amount that a value writes, and `Not` where it writes none. Assumes nothing.
-use Rattle.std.specs.Prelude.{ℕ, suc, ◌+◌, ◌*◌, ◌-◌, ◌^◌, ◌≤◌, ◌<◌, ◌≡◌, refl, List, [], ◌∷◌, ◌++◌, Bool, true, false, ◌||◌, length, get_or, T, eqb, ltb}
+use Rattle.std.specs.Prelude.{ℕ, suc, ◌+◌, ◌*◌, ◌-◌, ◌^◌, ◌≤◌, ◌<◌, ◌≡◌, refl, List, [], ◌∷◌, ◌++◌, Bool, true, false, ◌||◌, length, get_or, T, eqb, ltb, Option, Some, None}
 use Rattle.std.proofs.Math.Nat.{pow-le-pow_right}
 use Rattle.std.proofs.Common.{mul-le-mul_right, suc-mul, arith, sym, ◌∙◌, ap, subst, inl, inr, ⊎_elim, length-append, pow-add, eqb-true, ltb-false, ne_eqb, le-ltb}
 use Rattle.std.proofs.Math.Decide.{dec_le}
 use Rattle.std.proofs.lemmas.Bool.{eqb-false}
 use Rattle.service.specs.Service.{is_mark}
 use Rattle.service.specs.Tests.{if}
-use Rattle.values.specs.declared.Amount.{Amount}
-use Rattle.values.specs.declared.Amount.TheVariants as amount
 use Rattle.values.specs.Numbers.{Digits, none, more, Unled, worth}
 use Rattle.values.specs.Amounts.{Whole, BeforeMark, Mark, Fraction, AmountIs, whole, marked}
-use Rattle.values.specs.declared.Number.{Number}
-use Rattle.values.specs.declared.Number.TheVariants as number
 use Rattle.values.specs.Forms.Values.{one_more, Part, ends, left, nothing, onward, units, whole_of, fraction, together, amount_by, amount_of}
 use Rattle.values.specs.Laws.DigitLaws.{passed, digit_passed, digit_passes, digits_append, digit_one, append_nil, append_one, worth_one, worth_more, length_more, worth_small, worth_led, worth_pos, pow_one, unled_more, unled_first, unled_one}
-use Rattle.values.specs.Laws.NumberLaws.{not_of as not_number}
-
-not_of : (n : ℕ) → amount.Not ≡ amount.Of n → ⊥
-not_of n q = let z : ◌≡◌ {A = ℕ} 0 1 = cc in omega arith
+use Rattle.values.specs.Laws.NumberLaws.{not_of}
 
 -- ---- marks
 mark_by : (b : ℕ) (x y : Bool) → eqb b 44 ≡ x → eqb b 46 ≡ y → (x || y) ≡ true → Mark b
@@ -41,43 +34,43 @@ digit_no_mark b h =
     simp (ne_eqb b 44 n, ne_eqb b 46 m)
 
 -- ---- the digits after a mark: one, two or three
-pub read_fraction : (f : List ℕ) (n : ℕ) → fraction 100 0 f ≡ amount.Of n → Fraction f × (n ≡ worth f * 10 ^ (3 - length f))
+pub read_fraction : (f : List ℕ) (n : ℕ) → fraction 100 0 f ≡ Some n → Fraction f × (n ≡ worth f * 10 ^ (3 - length f))
 unfolding fraction worth
 read_fraction [] n e = absurd (not_of n e)
 read_fraction (a ∷ []) n e =
-    let p = digit_passed a amount.Not _ (amount.Of n) (not_of n) e in
+    let p = digit_passed a None _ (Some n) (not_of n) e in
     let q : 0 + (a - 48) * 100 ≡ n = cc p.2 in
     (record { digit = digit_one a p.0 p.1; some = omega arith; most = omega arith }, omega arith)
 read_fraction (a ∷ b ∷ []) n e =
-    let p = digit_passed a amount.Not _ (amount.Of n) (not_of n) e in
-    let p' = digit_passed b amount.Not _ (amount.Of n) (not_of n) p.2 in
+    let p = digit_passed a None _ (Some n) (not_of n) e in
+    let p' = digit_passed b None _ (Some n) (not_of n) p.2 in
     let q : 0 + (a - 48) * 100 + (b - 48) * 10 ≡ n = cc p'.2 in
     (record { digit = more a (b ∷ []) p.0 p.1 (digit_one b p'.0 p'.1); some = omega arith; most = omega arith }, omega arith)
 read_fraction (a ∷ b ∷ c ∷ []) n e =
-    let p = digit_passed a amount.Not _ (amount.Of n) (not_of n) e in
-    let p' = digit_passed b amount.Not _ (amount.Of n) (not_of n) p.2 in
-    let p'' = digit_passed c amount.Not _ (amount.Of n) (not_of n) p'.2 in
+    let p = digit_passed a None _ (Some n) (not_of n) e in
+    let p' = digit_passed b None _ (Some n) (not_of n) p.2 in
+    let p'' = digit_passed c None _ (Some n) (not_of n) p'.2 in
     let q : 0 + (a - 48) * 100 + (b - 48) * 10 + (c - 48) * 1 ≡ n = cc p''.2 in (
       record { digit = more a (b ∷ c ∷ []) p.0 p.1 (more b (c ∷ []) p'.0 p'.1 (digit_one c p''.0 p''.1)); some = omega arith; most = omega arith },
       omega arith,
     )
 read_fraction (a ∷ b ∷ c ∷ d ∷ f) n e =
-    let p = digit_passed a amount.Not _ (amount.Of n) (not_of n) e in
-    let p' = digit_passed b amount.Not _ (amount.Of n) (not_of n) p.2 in
-    let p'' = digit_passed c amount.Not _ (amount.Of n) (not_of n) p'.2 in
-    let o = digit_passed d amount.Not _ (amount.Of n) (not_of n) p''.2 in absurd (not_of n o.2)
+    let p = digit_passed a None _ (Some n) (not_of n) e in
+    let p' = digit_passed b None _ (Some n) (not_of n) p.2 in
+    let p'' = digit_passed c None _ (Some n) (not_of n) p'.2 in
+    let o = digit_passed d None _ (Some n) (not_of n) p''.2 in absurd (not_of n o.2)
 
-write_three : (f : List ℕ) → Digits f → 0 < length f → length f ≤ 3 → fraction 100 0 f ≡ amount.Of (worth f * 10 ^ (3 - length f))
+write_three : (f : List ℕ) → Digits f → 0 < length f → length f ≤ 3 → fraction 100 0 f ≡ Some (worth f * 10 ^ (3 - length f))
 unfolding fraction worth
 write_three f none s m = absurd (omega arith)
-write_three f (more a l x y none) s m = digit_passes a amount.Not _ x y ∙ ap amount.Of (omega arith)
+write_three f (more a l x y none) s m = digit_passes a None _ x y ∙ ap Some (omega arith)
 write_three f (more a l x y (more b l' x' y' none)) s m =
-    digit_passes a amount.Not _ x y ∙ digit_passes b amount.Not _ x' y' ∙ ap amount.Of (omega arith)
+    digit_passes a None _ x y ∙ digit_passes b None _ x' y' ∙ ap Some (omega arith)
 write_three f (more a l x y (more b l' x' y' (more c l'' x'' y'' none))) s m =
-    digit_passes a amount.Not _ x y ∙ digit_passes b amount.Not _ x' y' ∙ digit_passes c amount.Not _ x'' y'' ∙ ap amount.Of (omega arith)
+    digit_passes a None _ x y ∙ digit_passes b None _ x' y' ∙ digit_passes c None _ x'' y'' ∙ ap Some (omega arith)
 write_three f (more a l x y (more b l' x' y' (more c l'' x'' y'' (more d k x''' y''' r)))) s m = absurd (omega arith)
 
-pub write_fraction : (f : List ℕ) → Fraction f → fraction 100 0 f ≡ amount.Of (worth f * 10 ^ (3 - length f))
+pub write_fraction : (f : List ℕ) → Fraction f → fraction 100 0 f ≡ Some (worth f * 10 ^ (3 - length f))
 write_fraction f r = write_three f r.digit r.some r.most
 
 -- ---- the whole part: digits p were read, l is left
@@ -107,35 +100,35 @@ record Taken (count acc b n : ℕ) : Type 0 where
   lead : 0 < count → acc ≡ 0 → ⊥
   sum : n ≡ acc * 10 + (b - 48)
 
-taken : (acc b n : ℕ) → one_more 1 acc b ≡ number.Of n → Taken 1 acc b n
+taken : (acc b n : ℕ) → one_more 1 acc b ≡ Some n → Taken 1 acc b n
 unfolding one_more
 taken acc b n e =
-    let a = digit_passed b number.Not _ (number.Of n) (not_number n) e in
-    let f = passed (ltb 99999999999 acc) number.Not _ (number.Of n) (not_number n) a.2 in
-    let g = passed (eqb acc 0) number.Not _ (number.Of n) (not_number n) f.1 in
+    let a = digit_passed b None _ (Some n) (not_of n) e in
+    let f = passed (ltb 99999999999 acc) None _ (Some n) (not_of n) a.2 in
+    let g = passed (eqb acc 0) None _ (Some n) (not_of n) f.1 in
     let q : acc * 10 + (b - 48) ≡ n = cc g.1 in
     record { low = a.0; high = a.1; room = ltb-false 99999999999 acc f.0; lead = λ (h : 0 < 1). eqb-false acc 0 g.0; sum = sym q }
 
-taken_first : (b n : ℕ) → one_more 0 0 b ≡ number.Of n → Taken 0 0 b n
+taken_first : (b n : ℕ) → one_more 0 0 b ≡ Some n → Taken 0 0 b n
 unfolding one_more
 taken_first b n e =
-    let a = digit_passed b number.Not _ (number.Of n) (not_number n) e in
+    let a = digit_passed b None _ (Some n) (not_of n) e in
     let q : 0 * 10 + (b - 48) ≡ n = cc a.2 in
     record { low = a.0; high = a.1; room = omega arith; lead = λ (h : 0 < 0). absurd (omega arith); sum = sym q }
 
-takes : (acc b : ℕ) → 48 ≤ b → b ≤ 57 → acc ≤ 99999999999 → (acc ≡ 0 → ⊥) → one_more 1 acc b ≡ number.Of (acc * 10 + (b - 48))
+takes : (acc b : ℕ) → 48 ≤ b → b ≤ 57 → acc ≤ 99999999999 → (acc ≡ 0 → ⊥) → one_more 1 acc b ≡ Some (acc * 10 + (b - 48))
 unfolding one_more
-takes acc b x y k z = digit_passes b number.Not _ x y ∙ simp (le-ltb 99999999999 acc k, ne_eqb acc 0 z)
+takes acc b x y k z = digit_passes b None _ x y ∙ simp (le-ltb 99999999999 acc k, ne_eqb acc 0 z)
 
-takes_first : (b : ℕ) → 48 ≤ b → b ≤ 57 → one_more 0 0 b ≡ number.Of (b - 48)
+takes_first : (b : ℕ) → 48 ≤ b → b ≤ 57 → one_more 0 0 b ≡ Some (b - 48)
 unfolding one_more
-takes_first b x y = digit_passes b number.Not _ x y ∙ ap number.Of (omega arith)
+takes_first b x y = digit_passes b None _ x y ∙ ap Some (omega arith)
 
 -- one byte after the digits p: a digit more, or a mark
 module _ (p : List ℕ) (b : ℕ) (l : List ℕ) (k : Part) (d : nothing ≡ k → ⊥) (r : Whole p) (ih : Whole (p ++ b ∷ []) → units 1 (worth (p ++ b ∷ [])) l ≡ k → Splits ((p ++ b ∷ []) ++ l) k) where
-  read_digit : (j : Number) → one_more 1 (worth p) b ≡ j → onward j (λ (n : ℕ). units 1 n l) ≡ k → Splits (p ++ b ∷ l) k
-  read_digit number.Not c q = absurd (d q)
-  read_digit (number.Of n) c q =
+  read_digit : (j : Option ℕ) → one_more 1 (worth p) b ≡ j → onward j (λ (n : ℕ). units 1 n l) ≡ k → Splits (p ++ b ∷ l) k
+  read_digit None c q = absurd (d q)
+  read_digit (Some n) c q =
       let a = taken (worth p) b n c in
       let z : worth p ≡ 0 → ⊥ = a.lead (omega arith) in
       let i = few p r.digit r.some r.lead a.room z in
@@ -159,9 +152,9 @@ unfolding units worth
 read_whole [] k d e = absurd (d e)
 read_whole (b ∷ l) k d e = by_mark (is_mark b) refl e
   where
-    by_digit : (j : Number) → one_more 0 0 b ≡ j → onward j (λ (n : ℕ). units 1 n l) ≡ k → Splits (b ∷ l) k
-    by_digit number.Not c q = absurd (d q)
-    by_digit (number.Of n) c q =
+    by_digit : (j : Option ℕ) → one_more 0 0 b ≡ j → onward j (λ (n : ℕ). units 1 n l) ≡ k → Splits (b ∷ l) k
+    by_digit None c q = absurd (d q)
+    by_digit (Some n) c q =
         let a = taken_first b n c in
         let w : worth (b ∷ []) ≡ n = let m = worth_one b in let o = a.sum in omega arith in
         let r : Whole (b ∷ []) = record { digit = digit_one b a.low a.high; some = omega arith; most = omega arith; lead = unled_one b } in
@@ -172,18 +165,18 @@ read_whole (b ∷ l) k d e = by_mark (is_mark b) refl e
     by_mark false c q = by_digit (one_more 0 0 b) refl q
 
 -- the amount, by the parts
-read_together : (w f : List ℕ) (n : ℕ) (x : Amount) → fraction 100 0 f ≡ x → together (worth w) x ≡ amount.Of n → Fraction f × (n ≡ worth w * 1000 + worth f * 10 ^ (3 - length f))
-read_together w f n (amount.Of j) c e =
+read_together : (w f : List ℕ) (n : ℕ) (x : Option ℕ) → fraction 100 0 f ≡ x → together (worth w) x ≡ Some n → Fraction f × (n ≡ worth w * 1000 + worth f * 10 ^ (3 - length f))
+read_together w f n (Some j) c e =
     let a = read_fraction f j c in
     let q : worth w * 1000 + j ≡ n = cc in
     let g = a.1 in (a.0, omega arith)
-read_together w f n amount.Not c e = absurd (not_of n e)
+read_together w f n None c e = absurd (not_of n e)
 
-read_parts : (l : List ℕ) (k : Part) (n : ℕ) → Splits l k → amount_by k ≡ amount.Of n → AmountIs l n
+read_parts : (l : List ℕ) (k : Part) (n : ℕ) → Splits l k → amount_by k ≡ Some n → AmountIs l n
 read_parts l k n (in_all r c) e = let w : worth l * 1000 ≡ n = (let q = rw c at e in cc) in whole r (sym w)
 read_parts l k n (at_mark w f m q r g c) e = let a = read_together w f n (fraction 100 0 f) refl (rw c at e) in marked w f m q r g a.0 a.1
 
-pub amount_of_lem : (l : List ℕ) (n : ℕ) → amount_of l ≡ amount.Of n → AmountIs l n
+pub amount_of_lem : (l : List ℕ) (n : ℕ) → amount_of l ≡ Some n → AmountIs l n
 amount_of_lem l n e = read_parts l (whole_of l) n (read_whole l (whole_of l) (λ (q : nothing ≡ whole_of l). not_of n (ap amount_by q ∙ e)) refl) e
 
 -- ---- the other way
@@ -228,21 +221,21 @@ unfolding units worth
 write_before w f m (inl e) k = rw (e, mark_is m k)
 write_before w f m (inr r) k = write_whole w (m ∷ f) r ∙ rw (mark_is m k)
 
-pub of_amount : (l : List ℕ) (n : ℕ) → AmountIs l n → amount_of l ≡ amount.Of n
+pub of_amount : (l : List ℕ) (n : ℕ) → AmountIs l n → amount_of l ≡ Some n
 unfolding units
-of_amount l n (whole r e) = ap amount_by (ap whole_of (sym (append_nil l)) ∙ write_whole l [] r) ∙ ap amount.Of (sym e)
-of_amount l n (marked w f m q r k g e) = ap amount_by (ap whole_of q ∙ write_before w f m r k) ∙ ap (together (worth w)) (write_fraction f g) ∙ ap amount.Of (sym e)
+of_amount l n (whole r e) = ap amount_by (ap whole_of (sym (append_nil l)) ∙ write_whole l [] r) ∙ ap Some (sym e)
+of_amount l n (marked w f m q r k g e) = ap amount_by (ap whole_of q ∙ write_before w f m r k) ∙ ap (together (worth w)) (write_fraction f g) ∙ ap Some (sym e)
 
 -- there is none exactly if the answer is `Not`
-pub amount_not : (l : List ℕ) → amount_of l ≡ amount.Not → (n : ℕ) → AmountIs l n → ⊥
+pub amount_not : (l : List ℕ) → amount_of l ≡ None → (n : ℕ) → AmountIs l n → ⊥
 amount_not l e n r = not_of n (sym e ∙ of_amount l n r)
 
-pub not_amount : (l : List ℕ) → ((n : ℕ) → AmountIs l n → ⊥) → amount_of l ≡ amount.Not
+pub not_amount : (l : List ℕ) → ((n : ℕ) → AmountIs l n → ⊥) → amount_of l ≡ None
 not_amount l h = go (amount_of l) refl
   where
-    go : (k : Amount) → amount_of l ≡ k → amount_of l ≡ amount.Not
-    go (amount.Of n) e = absurd (h n (amount_of_lem l n e))
-    go amount.Not e = e
+    go : (k : Option ℕ) → amount_of l ≡ k → amount_of l ≡ None
+    go (Some n) e = absurd (h n (amount_of_lem l n e))
+    go None e = e
 
 -- a value writes one amount
 pub amount_one : (l : List ℕ) (n m : ℕ) → AmountIs l n → AmountIs l m → n ≡ m
@@ -259,7 +252,7 @@ thousandths f d m =
     let s = suc-mul (worth f) (10 ^ (3 - length f)) in
     let o = pow_one (3 - length f) in omega arith
 
-pub fraction_small : (f : List ℕ) (n : ℕ) → fraction 100 0 f ≡ amount.Of n → n < 1000
+pub fraction_small : (f : List ℕ) (n : ℕ) → fraction 100 0 f ≡ Some n → n < 1000
 fraction_small f n e = let w = read_fraction f n e in let k = thousandths f w.0.digit w.0.most in let q = w.1 in omega arith
 
 whole_below : (w : List ℕ) → Whole w → worth w < 1000000000000

@@ -1,6 +1,6 @@
 -- A code that is not 0 stands for one value; and what a code says of three capitals. Assumes nothing.
 use Rattle.std.specs.Prelude.{ℕ, suc, zero, ◌+◌, ◌*◌, ◌/◌, ◌%◌, ◌^◌, ◌≤◌, ◌<◌, ◌≡◌, refl, List, [], ◌∷◌, Bool, true, false, length, get_or, T, eqb, ltb, leb}
-use Rattle.std.proofs.Common.{pow-suc, mul-le-mul_right, mul_comm, mul_assoc, arith, ◌∙◌, ap, ap₂, subst, eq-eqb, ne_eqb, lt-ltb, le-ltb, le-leb, eqb-true, ltb-true, ltb-false, leb-true}
+use Rattle.std.proofs.Common.{pow-suc, mul-le-mul_right, mul_comm, mul_assoc, arith, ◌∙◌, ap, ap₂, subst, lt-ltb, le-ltb, le-leb, eqb-true, ltb-true, ltb-false, leb-true}
 use Rattle.std.proofs.Math.Nat.{pow-le-pow_right}
 use Rattle.std.proofs.Math.Decide.{dec_le}
 use Rattle.std.proofs.Math.Path.{sym}
@@ -117,14 +117,6 @@ code_one l l' n e =
     (packed_one 1 1 l l' w.small w'.small z p).1
 
 -- ---- three capitals
-pub capital_low : (b : ℕ) → b < 65 → false ≡ is_capital b
-unfolding is_capital
-capital_low b h = simp (lt-ltb b 65 h)
-
-pub capital_else : (b : ℕ) → 65 ≤ b → leb b 90 ≡ is_capital b
-unfolding is_capital
-capital_else b h = simp (le-ltb b 65 h)
-
 is_capital_by : (b : ℕ) (t : Bool) → ltb b 65 ≡ t → if t false (leb b 90) ≡ true → (65 ≤ b) × (b ≤ 90)
 is_capital_by b true p e = absurd (subst T (sym e) tt)
 is_capital_by b false p e = (ltb-false b 65 p, leb-true b 90 e)
@@ -136,26 +128,6 @@ is_capital_lem b e = is_capital_by b (ltb b 65) refl e
 capital_is : (b : ℕ) → 65 ≤ b → b ≤ 90 → is_capital b ≡ true
 unfolding is_capital
 capital_is b h g = simp (le-ltb b 65 h, le-leb b 90 g)
-
--- the tests in the order of the code
-module _ (code : ℕ) where
-  pub capitals_other : (code / 16777216 ≡ 1 → ⊥) → false ≡ is_capitals code
-  unfolding is_capitals
-  capitals_other n = simp (ne_eqb (code / 16777216) 1 n)
-
-  module _ (h : code / 16777216 ≡ 1) (x : Bool) (p : x ≡ is_capital (code / 65536 % 256)) where
-    pub capitals_first : x ≡ false → false ≡ is_capitals code
-    unfolding is_capitals
-    capitals_first e = simp (eq-eqb (code / 16777216) 1 h, sym p ∙ e)
-
-    module _ (e : x ≡ true) (y : Bool) (q : y ≡ is_capital (code / 256 % 256)) where
-      pub capitals_second : y ≡ false → false ≡ is_capitals code
-      unfolding is_capitals
-      capitals_second f = simp (eq-eqb (code / 16777216) 1 h, sym p ∙ e, sym q ∙ f)
-
-      pub capitals_third : y ≡ true → (z : Bool) → z ≡ is_capital (code % 256) → z ≡ is_capitals code
-      unfolding is_capitals
-      capitals_third f z w = simp (eq-eqb (code / 16777216) 1 h, sym p ∙ e, sym q ∙ f) w
 
 three : (a b c : ℕ) → (65 ≤ a) × (a ≤ 90) → (65 ≤ b) × (b ≤ 90) → (65 ≤ c) × (c ≤ 90) → ThreeCapitals (a ∷ b ∷ c ∷ [])
 three a b c x y z = record { three = refl; capital = go }

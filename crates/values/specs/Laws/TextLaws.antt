@@ -1,11 +1,10 @@
 -- What the tests of a value say: `same_list`, `says`, and the tests of numbers, amounts and capitals, each exactly. Assumes nothing.
-use Rattle.std.specs.Prelude.{ℕ, ◌+◌, ◌*◌, ◌<◌, ◌≡◌, refl, List, [], ◌∷◌, Bool, true, false, eqb, ltb}
+use Rattle.std.specs.Prelude.{ℕ, ◌+◌, ◌*◌, ◌<◌, ◌≡◌, refl, List, [], ◌∷◌, Bool, true, false, eqb, ltb, Some, None}
 use Prim.Native.Char.{code}
 use Prim.Native.String.{String, [] as end, ◌∷◌ as ◌before◌}
 use Rattle.std.proofs.Common.{arith, sym, ◌∙◌, ap, ap₂, eq-eqb, ne_eqb, eqb-true}
 use Rattle.std.proofs.lemmas.Bool.{eqb-false}
 use Rattle.service.specs.Tests.{if}
-use Rattle.values.specs.declared.Amount.TheVariants as amount
 use Rattle.values.specs.Exactly.{Exactly}
 use Rattle.values.specs.Numbers.{NumberIs, ThreeCapitals}
 use Rattle.values.specs.Amounts.{AmountIs}
@@ -73,7 +72,7 @@ pub writes_exactly : (l : List ℕ) (n : ℕ) → n < 10000000000000000000 → E
 writes_exactly l n h = (number_is_true l n, λ r. true_number_is l n r h)
 
 -- an amount is answered exactly if the value writes it, and none exactly if it writes none
-pub amount_exactly : (l : List ℕ) → ((n : ℕ) → Exactly (amount_of l ≡ amount.Of n) (AmountIs l n)) × Exactly (amount_of l ≡ amount.Not) ((n : ℕ) → AmountIs l n → ⊥)
+pub amount_exactly : (l : List ℕ) → ((n : ℕ) → Exactly (amount_of l ≡ Some n) (AmountIs l n)) × Exactly (amount_of l ≡ None) ((n : ℕ) → AmountIs l n → ⊥)
 amount_exactly l = (λ (n : ℕ). (amount_of_lem l n, of_amount l n), (amount_not l, not_amount l))
 
 -- a code passes the test of capitals exactly if the value is three capitals

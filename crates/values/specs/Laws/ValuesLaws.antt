@@ -1,183 +1,161 @@
 -- The next byte of a value, and one turn of each loop over a value. Assumes nothing.
-use Rattle.std.specs.Prelude.{ℕ, ◌+◌, ◌*◌, ◌-◌, ◌≤◌, ◌<◌, ◌≡◌, refl, List, [], ◌∷◌, Bool, true, false, length, drop, eqb}
+use Rattle.std.specs.Prelude.{ℕ, ◌+◌, ◌*◌, ◌-◌, ltb, ◌≤◌, ◌<◌, ◌≡◌, refl, List, [], ◌∷◌, Bool, true, false, length, drop, eqb, Option, Some, None}
 use Rattle.std.proofs.Common.{arith, ◌∙◌}
 use Rattle.std.proofs.Math.Path.{sym, ap}
-use borrow.Author.Tests.{eq-eqb, ne_eqb, lt-ltb, le-ltb}
+use borrow.Author.Tests.{lt-ltb, le-ltb}
 use Rattle.service.specs.declared.Service.{Service}
 use Rattle.service.specs.Tests.{if}
 use Rattle.parts.specs.declared.Token.{Token}
 use Rattle.parts.specs.declared.Token.TheVariants as token
 use Rattle.parts.specs.Parts.{lex, value_of}
 use Rattle.parts.specs.Forms.Lex.{token_at}
-use Rattle.parts.proofs.Laws.LexLaws.{Reads, token_reads}
-use Rattle.values.specs.declared.Next.{Next}
-use Rattle.values.specs.declared.Next.TheVariants as next
-use Rattle.values.specs.declared.Number.{Number}
-use Rattle.values.specs.declared.Number.TheVariants as number
+use Rattle.parts.proofs.Laws.LexLaws.{reads_byte, reads_comp, reads_elem, reads_stop}
 use Rattle.values.specs.Numbers.{value_from}
-use Rattle.values.specs.Forms.Values.{next_by, next_at, digits, number_of, is_number, code_from}
+use Rattle.values.specs.Forms.Values.{digits, number_of, digit_more, count_of, read_of, is_number, code_from}
 use Rattle.values.specs.Text.{same_list}
+use Rattle.std.proofs.Common.{length-drop}
+use Rattle.std.specs.Prelude.{◌^◌, suc}
+use Rattle.std.specs.Iterator.{YieldsFirst, Drains, Yields, ComparesItemsByEq}
+use Rattle.std.specs.Prelude.{MatchOption, IfSome}
+use Rattle.std.specs.List.{AllZip}
+use Rattle.std.proofs.Common.{ap₂}
+use Rattle.std.proofs.lemmas.Iterator.Consumers.{count_from_yields_List, YieldsList-from_first}
+use Rattle.segments.specs.declared.Class.{Class}
+use Rattle.segments.specs.declared.Class.TheVariants.{Plain, Comp, Elem, Rel, Term}
+use Rattle.segments.specs.Classes.{class_of}
+use Rattle.parts.specs.Parts.{Tok, lex_by}
+use Rattle.values.specs.declared.Value.{Value}
+use Rattle.values.specs.Left.{value_left}
 
--- ---- the next byte, by the token
+-- ---- the next byte of a value, by the token
 module _ (v : Service) (s : List ℕ) (i : ℕ) (k : Token) (c : k ≡ token_at v i (drop i s)) where
-  next_by_lem : next_by k ≡ next_at v i s
-  unfolding next_at
-  next_by_lem = ap next_by c
+  pub value_byte : (b n : ℕ) → k ≡ token.Byte b n → value_from v i s ≡ b ∷ value_from v n s
+  unfolding value_of
+  value_byte b n e = ap value_of (reads_byte v s i k c b n e).0
 
-  pub next_byte : (b n : ℕ) → k ≡ token.Byte b n → next.Byte b n ≡ next_at v i s
-  next_byte b n e = rw e at next_by_lem
+  pub value_comp : (n : ℕ) → k ≡ token.Comp n → value_from v i s ≡ []
+  unfolding value_of
+  value_comp n e = ap value_of (reads_comp v s i k c n e).0
 
-  pub next_comp : (n : ℕ) → k ≡ token.Comp n → next.Done ≡ next_at v i s
-  next_comp n e = rw e at next_by_lem
+  pub value_elem : (n : ℕ) → k ≡ token.Elem n → value_from v i s ≡ []
+  unfolding value_of
+  value_elem n e = ap value_of (reads_elem v s i k c n e).0
 
-  pub next_elem : (n : ℕ) → k ≡ token.Elem n → next.Done ≡ next_at v i s
-  next_elem n e = rw e at next_by_lem
+  pub value_stop : k ≡ token.Stop → value_from v i s ≡ []
+  unfolding value_of
+  value_stop e = ap value_of (reads_stop v s i k c e)
 
-  pub next_stop : k ≡ token.Stop → next.Done ≡ next_at v i s
-  next_stop e = rw e at next_by_lem
-
--- ---- what it says of the value
-abbrev pub NextReads : Service → List ℕ → ℕ → Next → Type 0
-NextReads v s i (next.Byte b n) = (value_from v i s ≡ b ∷ value_from v n s) × (i < n) × (n ≤ length s)
-NextReads v s i next.Done = value_from v i s ≡ []
-
-by_token : (v : Service) (s : List ℕ) (i : ℕ) (t : Token) → Reads v s i t → NextReads v s i (next_by t)
+-- a value is no longer than the bytes
+short_by : (b : ℕ) (rel on : List Tok) (n : ℕ) → length (value_of rel) ≤ n → length (value_of on) ≤ n → (k : Class) → length (value_of (lex_by k b rel on)) ≤ suc n
 unfolding value_of
-by_token v s i (token.Byte b n) w = (ap value_of w.0, w.1, w.2)
-by_token v s i (token.Comp n) w = ap value_of w.0
-by_token v s i (token.Elem n) w = ap value_of w.0
-by_token v s i token.Stop w = ap value_of w
+short_by b rel on n h g Plain = omega arith
+short_by b rel on n h g Comp = omega arith
+short_by b rel on n h g Elem = omega arith
+short_by b rel on n h g Rel = omega arith
+short_by b rel on n h g Term = omega arith
 
-pub next_reads : (v : Service) (s : List ℕ) (i : ℕ) (k : Next) → k ≡ next_at v i s → NextReads v s i k
-unfolding next_at
-next_reads v s i k e = rw e (by_token v s i (token_at v i (drop i s)) (token_reads v s i (token_at v i (drop i s)) refl))
+short : (v : Service) (r : Bool) (l : List ℕ) → length (value_of (lex v r l)) ≤ length l
+unfolding lex value_of
+short v r [] = omega arith
+short v true (b ∷ l) = let w = short v false l in omega arith
+short v false (b ∷ l) = short_by b (lex v true l) (lex v false l) (length l) (short v true l) (short v false l) (class_of v b)
 
-module _ (v : Service) (s : List ℕ) (i : ℕ) (k : Next) (c : k ≡ next_at v i s) where
-  pub reads_on : (b n : ℕ) → k ≡ next.Byte b n → NextReads v s i (next.Byte b n)
-  reads_on b n e = rw e at (next_reads v s i k c)
+pub value_short : (v : Service) (i : ℕ) (s : List ℕ) → length (value_from v i s) ≤ length s
+value_short v i s = let w = short v false (drop i s) in let d = length-drop i s in omega arith
 
-  pub reads_done : k ≡ next.Done → NextReads v s i next.Done
-  reads_done e = rw e at (next_reads v s i k c)
+-- the bytes that a reader yields are those of the value
+pub counted : (r : Value) (l : List ℕ) (n : ℕ) → value_left r ≡ l → ((xs : List ℕ) × Drains (YieldsFirst value_left) r xs × (n ≡ length xs)) → n ≡ length l
+counted r l n e h = count_from_yields_List r n h (YieldsList-from_first (λ x. x) value_left l e)
 
-  pub next_later : (b n : ℕ) → k ≡ next.Byte b n → i < n
-  next_later b n e = (reads_on b n e).1
+pub count_fits : (r : Value) → length r.text.bytes.now < 2 ^ 64 → 0 + length (value_left r) < 2 ^ 64
+count_fits r h = let w = value_short r.text.service r.at r.text.bytes.now in omega arith
 
-  pub less_next : (b n : ℕ) → k ≡ next.Byte b n → length s - n < length s - i
-  less_next b n e = let w = reads_on b n e in omega arith
+-- ---- two values compared: what `eq` of two readers says
+abbrev Step : Value → Option ℕ → Value → Type 0
+Step = YieldsFirst value_left
 
--- ---- two values compared
-module _ (x : Bool) (v : Service) (s : List ℕ) (i j : ℕ) (inv : x ≡ same_list (value_from v i s) (value_from v j s)) (k l : Next) (c : k ≡ next_at v i s) (d : l ≡ next_at v j s) where
-  pub same_both : k ≡ next.Done → l ≡ next.Done → true ≡ x
+abbrev Ends : Option ℕ → Option ℕ → Bool → Type 0
+Ends o p r = MatchOption o (MatchOption p (r ≡ true) (λ _. r ≡ false)) (λ x. (r ≡ false) × IfSome p (λ y. eqb x y ≡ false))
+
+module _ (r : Bool) (s' t' u w : Value) where
+  same_by : (xs ys : List ℕ) (o p : Option ℕ) (s t : Value) → Yields Step s xs s' → Step s' o u → Yields Step t ys t' → Step t' p w → AllZip (λ x y. eqb x y ≡ true) xs ys → Ends o p r → r ≡ same_list (value_left s) (value_left t)
   unfolding same_list
-  same_both e f = sym (inv ∙ rw (reads_done v s i k c e, reads_done v s j l d f))
+  same_by [] [] None None s t a b c d z l = l ∙ sym (ap₂ same_list (ap value_left a ∙ b.0) (ap value_left c ∙ d.0))
+  same_by [] [] None (Some y) s t a b c d z l = l ∙ sym (ap₂ same_list (ap value_left a ∙ b.0) (ap value_left c ∙ d))
+  same_by [] [] (Some x) None s t a b c d z l = l.0 ∙ sym (ap₂ same_list (ap value_left a ∙ b) (ap value_left c ∙ d.0))
+  same_by [] [] (Some x) (Some y) s t a b c d z l = l.0 ∙ sym (ap₂ same_list (ap value_left a ∙ b) (ap value_left c ∙ d) ∙ ap (λ (e : Bool). if e (same_list (value_left u) (value_left w)) false) l.1)
+  same_by [] (y ∷ ys) o p s t a b c d z l = absurd z
+  same_by (x ∷ xs) [] o p s t a b c d z l = absurd z
+  same_by (x ∷ xs) (y ∷ ys) o p s t a b c d z l =
+      same_by xs ys o p a.0 c.0 a.2 b c.2 d z.1 l
+      ∙ sym (ap₂ same_list a.1 c.1 ∙ ap (λ (e : Bool). if e (same_list (value_left a.0) (value_left c.0)) false) z.0)
 
-  pub same_shorter : k ≡ next.Done → (b n : ℕ) → l ≡ next.Byte b n → false ≡ x
-  unfolding same_list
-  same_shorter e b n f = sym (inv ∙ rw (reads_done v s i k c e, (reads_on v s j l d b n f).0))
-
-  module _ (b n : ℕ) (e : k ≡ next.Byte b n) where
-    pub same_longer : l ≡ next.Done → false ≡ x
-    unfolding same_list
-    same_longer f = sym (inv ∙ rw ((reads_on v s i k c b n e).0, reads_done v s j l d f))
-
-    module _ (b' n' : ℕ) (f : l ≡ next.Byte b' n') where
-      same_by : x ≡ if (eqb b b') (same_list (value_from v n s) (value_from v n' s)) false
-      unfolding same_list
-      same_by = inv ∙ rw ((reads_on v s i k c b n e).0, (reads_on v s j l d b' n' f).0)
-
-      pub same_other : (b ≡ b' → ⊥) → false ≡ x
-      same_other g = sym (simp (ne_eqb _ _ g) at same_by)
-
-      pub same_on : b ≡ b' → x ≡ same_list (value_from v n s) (value_from v n' s)
-      same_on g = simp (eq-eqb _ _ g) at same_by
-
--- ---- a value's length
-module _ (x at n : ℕ) (v : Service) (s : List ℕ) (i : ℕ) (inv : x ≡ n + length (value_from v i s)) (k : Next) (c : k ≡ next_at v i s) where
-  pub len_done : k ≡ next.Done → n ≡ x
-  len_done e = let w = ap length (reads_done v s i k c e) in omega arith
-
-  pub len_on : (b m : ℕ) → k ≡ next.Byte b m → x ≡ n + 1 + length (value_from v m s)
-  len_on b m e = let w = ap length (reads_on v s i k c b m e).0 in omega arith
-
-pub len_below : (at n : ℕ) (v : Service) (s : List ℕ) (i : ℕ) → n + at ≤ i → (k : Next) → k ≡ next_at v i s → (b m : ℕ) → k ≡ next.Byte b m → n < length s
-len_below at n v s i h k c b m e = let w = reads_on v s i k c b m e in omega arith
-
--- ---- a number
-module _ (x : Number) (v : Service) (s : List ℕ) (i count acc : ℕ) (inv : x ≡ digits count acc (value_from v i s)) (k : Next) (c : k ≡ next_at v i s) where
-  module _ (e : k ≡ next.Done) where
-    num_by : x ≡ digits count acc []
-    num_by = inv ∙ ap (digits count acc) (reads_done v s i k c e)
-
-    pub num_of : 0 < count → number.Of acc ≡ x
-    unfolding digits
-    num_of h = sym (num_by ∙ simp (lt-ltb _ _ h))
-
-    pub num_none : count ≤ 0 → number.Not ≡ x
-    unfolding digits
-    num_none h = sym (num_by ∙ simp (le-ltb _ _ h))
-
-  module _ (b n : ℕ) (e : k ≡ next.Byte b n) where
-    num_on : x ≡ digits count acc (b ∷ value_from v n s)
-    num_on = inv ∙ ap (digits count acc) (reads_on v s i k c b n e).0
-
-    pub num_low : b < 48 → number.Not ≡ x
-    unfolding digits
-    num_low h = sym (num_on ∙ simp (lt-ltb _ _ h))
-
-    module _ (h : 48 ≤ b) where
-      pub num_high : 57 < b → number.Not ≡ x
-      unfolding digits
-      num_high g = sym (num_on ∙ simp (le-ltb _ _ h, lt-ltb _ _ g))
-
-      module _ (g : b ≤ 57) where
-        pub num_large : 999999999999999999 < acc → number.Not ≡ x
-        unfolding digits
-        num_large m = sym (num_on ∙ simp (le-ltb _ _ h, le-ltb _ _ g, lt-ltb _ _ m))
-
-        module _ (m : acc ≤ 999999999999999999) where
-          pub num_lead : 0 < count → acc ≡ 0 → number.Not ≡ x
-          unfolding digits
-          num_lead p z = sym (num_on ∙ simp (le-ltb _ _ h, le-ltb _ _ g, le-ltb _ _ m, lt-ltb _ _ p, eq-eqb _ _ z))
-
-          pub num_more : 0 < count → (acc ≡ 0 → ⊥) → x ≡ digits 1 (acc * 10 + (b - 48)) (value_from v n s)
-          unfolding digits
-          num_more p z = num_on ∙ simp (le-ltb _ _ h, le-ltb _ _ g, le-ltb _ _ m, lt-ltb _ _ p, ne_eqb _ _ z)
-
-          pub num_first : count ≤ 0 → x ≡ digits 1 (acc * 10 + (b - 48)) (value_from v n s)
-          unfolding digits
-          num_first p = num_on ∙ simp (le-ltb _ _ h, le-ltb _ _ g, le-ltb _ _ m, le-ltb _ _ p)
+pub same_is : (s t : Value) (k l : List ℕ) (r : Bool) → value_left s ≡ k → value_left t ≡ l → ComparesItemsByEq Step (λ x y. y ≡ x) Step s t eqb r → r ≡ same_list k l
+same_is s t k l r e f h =
+    same_by r h.8.0 h.9.0 h.5 h.6 h.1 h.2 h.3 h.4 s h.0 h.8.1 h.8.2 h.9.1 h.9.2 h.10 h.11 ∙ ap₂ same_list e (ap value_left h.7 ∙ f)
 
 -- ---- a code
-module _ (x : ℕ) (v : Service) (s : List ℕ) (i code : ℕ) (inv : x ≡ code_from code (value_from v i s)) (k : Next) (c : k ≡ next_at v i s) where
-  pub code_done : k ≡ next.Done → code ≡ x
+module _ (x code : ℕ) (l : List ℕ) (inv : x ≡ code_from code l) where
+  pub code_done : l ≡ [] → code ≡ x
   unfolding code_from
-  code_done e = sym (inv ∙ ap (code_from code) (reads_done v s i k c e))
+  code_done e = sym (inv ∙ ap (code_from code) e)
 
-  module _ (b n : ℕ) (e : k ≡ next.Byte b n) where
-    code_on : x ≡ code_from code (b ∷ value_from v n s)
-    code_on = inv ∙ ap (code_from code) (reads_on v s i k c b n e).0
+  module _ (b : ℕ) (k : List ℕ) (e : l ≡ b ∷ k) where
+    code_on : x ≡ code_from code (b ∷ k)
+    code_on = inv ∙ ap (code_from code) e
 
     pub code_long : 72057594037927935 < code → 0 ≡ x
     unfolding code_from
     code_long h = sym (code_on ∙ simp (lt-ltb _ _ h))
 
-    pub code_more : code ≤ 72057594037927935 → b < 256 → (w : ℕ) → w ≡ b → x ≡ code_from (code * 256 + w) (value_from v n s)
+    pub code_more : code ≤ 72057594037927935 → b < 256 → x ≡ code_from (code * 256 + b) k
     unfolding code_from
-    code_more h g w f = rw f (code_on ∙ simp (le-ltb _ _ h, lt-ltb _ _ g))
+    code_more h g = code_on ∙ simp (le-ltb _ _ h, lt-ltb _ _ g)
 
--- ---- by a value's position, or by its component and element
-pub at_value : {A : Type 0} (says : List ℕ → A) (x : A) (p : ℕ) (v : Service) (s l : List ℕ) → value_of (lex v false (drop p s)) ≡ l → x ≡ says (value_from v p s) → x ≡ says l
-at_value says x p v s l e f = f ∙ ap says e
+-- ---- a number
+abbrev then_read : Option ℕ → (ℕ → Option ℕ) → Option ℕ
+then_read None f = None
+then_read (Some n) f = f n
 
-pub at_values : (r : Bool) (p q : ℕ) (v : Service) (s k l : List ℕ) → value_of (lex v false (drop p s)) ≡ k → value_of (lex v false (drop q s)) ≡ l → r ≡ same_list (value_from v p s) (value_from v q s) → r ≡ same_list k l
-at_values r p q v s k l a b c = c ∙ rw (a, b)
+digits_more : (a : Option ℕ) (b : ℕ) (k : List ℕ) → digits (count_of a) (read_of a) (b ∷ k) ≡ then_read (digit_more 999999999999999999 a b) (λ n. digits 1 n k)
+unfolding digits digit_more
+digits_more None b k = go (ltb b 48) (ltb 57 b)
+  where
+    go : (t u : Bool) → if t None (if u None (digits 1 (0 * 10 + (b - 48)) k)) ≡ then_read (if t None (if u None (Some (b - 48)))) (λ n. digits 1 n k)
+    go true u = refl
+    go false true = refl
+    go false false = ap (λ n. digits 1 n k) (omega arith)
+digits_more (Some m) b k = go (ltb b 48) (ltb 57 b) (ltb 999999999999999999 m) (eqb m 0)
+  where
+    go : (t u w z : Bool) → if t None (if u None (if w None (if z None (digits 1 (m * 10 + (b - 48)) k)))) ≡ then_read (if t None (if u None (if w None (if z None (Some (m * 10 + (b - 48))))))) (λ n. digits 1 n k)
+    go true u w z = refl
+    go false true w z = refl
+    go false false true z = refl
+    go false false false true = refl
+    go false false false false = refl
 
-module _ (k : Number) (p : ℕ) (v : Service) (s l : List ℕ) (n : ℕ) (e : value_of (lex v false (drop p s)) ≡ l) (c : k ≡ number_of (value_from v p s)) where
-  number_is_by : is_number k n ≡ is_number (number_of l) n
-  number_is_by = ap (λ (u : Number). is_number u n) (c ∙ ap number_of e)
+pub num_start : (l : List ℕ) → number_of l ≡ digits (count_of None) (read_of None) l
+unfolding number_of
+num_start l = refl
 
-  pub number_is_of : (m : ℕ) → k ≡ number.Of m → eqb m n ≡ is_number (number_of l) n
-  number_is_of m q = rw q at number_is_by
+module _ (x a : Option ℕ) (l : List ℕ) (inv : x ≡ digits (count_of a) (read_of a) l) where
+  pub num_end : l ≡ [] → a ≡ x
+  unfolding digits
+  num_end e = by_read a ∙ sym (inv ∙ ap (digits (count_of a) (read_of a)) e)
+    where
+      by_read : (a : Option ℕ) → a ≡ digits (count_of a) (read_of a) []
+      by_read None = refl
+      by_read (Some n) = refl
 
-  pub number_is_not : k ≡ number.Not → false ≡ is_number (number_of l) n
-  number_is_not q = rw q at number_is_by
+  module _ (b : ℕ) (k : List ℕ) (e : l ≡ b ∷ k) (d : Option ℕ) (c : d ≡ digit_more 999999999999999999 a b) where
+    num_by : x ≡ then_read d (λ n. digits 1 n k)
+    num_by = inv ∙ ap (digits (count_of a) (read_of a)) e ∙ digits_more a b k ∙ ap (λ (o : Option ℕ). then_read o (λ n. digits 1 n k)) (sym c)
+
+    pub num_stop : d ≡ None → None ≡ x
+    num_stop q = sym (num_by ∙ ap (λ (o : Option ℕ). then_read o (λ n. digits 1 n k)) q)
+
+    pub num_on : (n : ℕ) → d ≡ Some n → x ≡ digits 1 n k
+    num_on n q = num_by ∙ ap (λ (o : Option ℕ). then_read o (λ n. digits 1 n k)) q
+
+pub number_is_by : (k : Option ℕ) (l m : List ℕ) (n : ℕ) → l ≡ m → k ≡ number_of l → is_number k n ≡ is_number (number_of m) n
+number_is_by k l m n e c = ap (λ (u : Option ℕ). is_number u n) (c ∙ ap number_of e)

@@ -1,46 +1,69 @@
 -- The walk's tests, one by one. Assumes nothing.
-use Rattle.std.specs.Prelude.{ℕ, ◌≤◌, ◌<◌, ◌≡◌, List, length}
+use Rattle.std.specs.Prelude.{ℕ, ◌≤◌, ◌<◌, ◌≡◌, refl, List, Bool, true, false, length, ltb, Option, None, Some, Result, Ok, Err}
 use Rattle.std.proofs.Math.Path.{sym, ap}
-use Rattle.std.proofs.Common.{◌∙◌, lt-ltb, le-ltb}
+use Rattle.std.proofs.Common.{arith, ◌∙◌, lt-ltb, le-ltb}
+use Rattle.numbers.specs.declared.Number.TheVariants as numbers
 use Rattle.service.specs.declared.Service.{Service}
 use Rattle.service.specs.declared.Characters.{Characters}
-use Rattle.service.specs.declared.Characters.TheVariants.{Unfit}
+use Rattle.service.specs.Service.{Fit}
 use Rattle.service.specs.Service.{characters_of}
+use Rattle.service.specs.Tests.{if}
 use Rattle.interchange.specs.declared.Refusal.{Refusal}
-use Rattle.interchange.specs.declared.Found.{Found}
-use Rattle.interchange.specs.declared.Found.TheVariants as found
+use Rattle.interchange.specs.Answers.{Found, refusal}
 use Rattle.interchange.specs.Messages.{found_from}
-use Rattle.interchange.specs.Envelope.{refusal}
-use Rattle.walk.specs.Frame.{message, nothing, refused, step_by, step_at, step_with, step_from}
+use Rattle.interchange.specs.Forms.Answers.{read_with, read_by}
+use Rattle.walk.specs.Frame.{Step, message, step_at, step_with, step_from}
 
 module _ (v : Service) (s : List ℕ) (at : ℕ) where
-  pub step_past : length s < at → (f : Refusal) → f ≡ refusal 8 → refused f ≡ step_at v s at
+  pub step_past : length s < at → (f : Refusal) → f ≡ refusal numbers.Position → Err f ≡ step_at v s at
   unfolding step_at
-  step_past h f e = ap refused e ∙ sym (rw (lt-ltb _ _ h))
+  step_past h f e = ap Err e ∙ sym (rw (lt-ltb _ _ h))
 
-  module _ (h : at ≤ length s) (k : Found) (c : k ≡ found_from v s at) where
-    step_found : step_at v s at ≡ step_by k
-    unfolding step_at
-    step_found = rw (le-ltb _ _ h) (ap step_by (sym c))
+  pub step_found : at ≤ length s → (k : Found) → k ≡ found_from v s at → k ≡ step_at v s at
+  unfolding step_at
+  step_found h k c = c ∙ sym (rw (le-ltb _ _ h))
 
-    pub step_message : (a e : ℕ) → k ≡ found.Message a e → message a e ≡ step_at v s at
-    step_message a e q = sym (step_found ∙ ap step_by q)
+module _ (s : List ℕ) where
+  -- ---- what the characters say of a step
+  pub record Read (v : Service) : Type 0 where
+    pub una : ℕ
+    pub named : characters_of s ≡ Fit v una
+    pub steps : (at : ℕ) → step_at v s at ≡ step_from s at
 
-    pub step_nothing : k ≡ found.Nothing → nothing ≡ step_at v s at
-    step_nothing q = sym (step_found ∙ ap step_by q)
-
-    pub step_unfinished : k ≡ found.Unfinished → (f : Refusal) → f ≡ refusal 4 → refused f ≡ step_at v s at
-    step_unfinished q f e = ap refused e ∙ sym (step_found ∙ ap step_by q)
-
-module _ (s : List ℕ) (at : ℕ) where
-  pub step_long : 1048576 < length s → (f : Refusal) → f ≡ refusal 1 → refused f ≡ step_from s at
+  read_if : (k : Option Characters) → characters_of s ≡ k → (t : Bool) → ltb 1048576 (length s) ≡ t → (d : Characters) → ◌≡◌ {A = Result Characters Refusal} (if t (Err (refusal numbers.TooLong)) (read_with k)) (Ok d) → Read d.service
   unfolding step_from
-  step_long h f e = ap refused e ∙ sym (rw (lt-ltb _ _ h))
+  read_if k c true l d e = absurd (let z : ◌≡◌ {A = ℕ} 0 1 = cc in omega arith)
+  read_if (Some c) n false l d e = let i : c ≡ d = cc in record { una = c.una; named = n ∙ ap (λ (w : Characters). Fit w.service c.una) i; steps = λ at. rw (l, n, i) }
+  read_if None c false l d e = absurd (let z : ◌≡◌ {A = ℕ} 0 1 = cc in omega arith)
 
-  module _ (h : length s ≤ 1048576) (k : Characters) (c : k ≡ characters_of s) where
-    pub step_named : step_from s at ≡ step_with s at k
-    unfolding step_from
-    step_named = rw (le-ltb _ _ h) (ap (step_with s at) (sym c))
+  unread_if : (k : Option Characters) → characters_of s ≡ k → (t : Bool) → ltb 1048576 (length s) ≡ t → (f : Refusal) → ◌≡◌ {A = Result Characters Refusal} (if t (Err (refusal numbers.TooLong)) (read_with k)) (Err f) → (at : ℕ) → ◌≡◌ {A = Step} (Err f) (step_from s at)
+  unfolding step_from
+  unread_if k c true l f e at = let i : refusal numbers.TooLong ≡ f = cc in rw (l, i)
+  unread_if (Some d) c false l f e at = absurd (let z : ◌≡◌ {A = ℕ} 0 1 = cc in omega arith)
+  unread_if None c false l f e at = let i : refusal numbers.Characters ≡ f = cc in rw (l, c, i)
 
-    pub step_unfit : k ≡ Unfit → (f : Refusal) → f ≡ refusal 2 → refused f ≡ step_from s at
-    step_unfit q f e = ap refused e ∙ sym (step_named ∙ ap (step_with s at) q)
+  module _ (k : Result Characters Refusal) (c : k ≡ read_by s) where
+    pub read : (d : Characters) → k ≡ Ok d → Read d.service
+    unfolding read_by
+    read d e = read_if (characters_of s) refl (ltb 1048576 (length s)) refl d (sym c ∙ e)
+
+    pub unread : (f : Refusal) → k ≡ Err f → (at : ℕ) → ◌≡◌ {A = Step} (Err f) (step_from s at)
+    unfolding read_by
+    unread f e at = unread_if (characters_of s) refl (ltb 1048576 (length s)) refl f (sym c ∙ e) at
+
+-- ---- where a message lies, of an answer
+abbrev from_of : Step → ℕ
+from_of (Ok (Some m)) = m.start
+from_of (Ok None) = 0
+from_of (Err f) = 0
+
+abbrev to_of : Step → ℕ
+to_of (Ok (Some m)) = m.end
+to_of (Ok None) = 0
+to_of (Err f) = 0
+
+pub one_start : (a e b c : ℕ) → message a e ≡ message b c → a ≡ b
+one_start a e b c q = ap from_of q
+
+pub one_end : (a e b c : ℕ) → message a e ≡ message b c → e ≡ c
+one_end a e b c q = ap to_of q

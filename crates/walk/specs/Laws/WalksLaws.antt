@@ -1,39 +1,40 @@
 -- A step of the walk from what was found, and that no second answer meets `Walks`. Assumes nothing.
-use Rattle.std.specs.Prelude.{ℕ, ◌-◌, ◌≡◌, refl, List, take, drop}
-use Rattle.std.proofs.Common.{arith, sym, ◌∙◌, subst}
+use Rattle.std.specs.Prelude.{ℕ, ◌-◌, ◌≡◌, refl, List, take, drop, Option, None, Some, Result, Ok, Err}
+use Rattle.std.proofs.Common.{arith, sym, ◌∙◌, ap, subst}
+use Rattle.service.specs.declared.Characters.{Characters}
 use Rattle.service.specs.declared.Service.{Service}
-use Rattle.service.specs.declared.Characters.TheVariants.{Fit}
+use Rattle.service.specs.Service.{Fit}
+use Rattle.service.specs.Laws.ServiceLaws.{same_fit}
 use Rattle.interchange.specs.declared.Refusal.{Refusal}
+use Rattle.interchange.specs.declared.Span.{Span}
+use Rattle.interchange.specs.Answers.{Found}
 use Rattle.lent.specs.Lists.{Lists, left}
-use Rattle.report.specs.declared.Report.{Report}
+use Rattle.report.specs.Answers.{Report}
 use Rattle.report.specs.Reported.{Reported}
 use Rattle.report.specs.Laws.ReportedLaws.{one_report}
-use Rattle.walk.specs.declared.Sought.{Sought}
-use Rattle.walk.specs.declared.Sought.TheVariants as sought
-use Rattle.walk.specs.declared.Walked.{Walked}
-use Rattle.walk.specs.declared.Walked.TheVariants as walked
-use Rattle.walk.specs.Frame.{message, nothing, refused, step_from}
+use Rattle.interchange.specs.Forms.Answers.{read_by}
+use Rattle.walk.specs.Steps.{Walked}
+use Rattle.walk.specs.Steps as walked
+use Rattle.walk.specs.Frame.{message, nothing, refused, step_at, step_from}
 use Rattle.walk.specs.Walks.{between, Walks, walks_message, walks_nothing, walks_refused}
-use Rattle.walk.specs.Forms.Sought.{Seeks, seeks_message, seeks_nothing, seeks_refused}
+use Rattle.walk.specs.Laws.FrameLaws.{read, unread, one_start, one_end}
+use Rattle.walk.specs.Laws.PlaceLaws.{sought}
 
 -- ---- a step is what was found, checked
-module _ (s : List ℕ) (at : ℕ) (x : Lists) where
-  pub walk_message : (k : Sought) → Seeks s at k → (v : Service) (a e : ℕ) → k ≡ sought.Message v a e → (x' : Lists) (y : Report) → Reported v (take (e - a) (drop a s)) x x' y → Walks s at x x' (walked.Message a e y)
-  walk_message k (seeks_message u una b c n p) v a e q x' y w =
-      let m : message a e ≡ step_from s at = let i : b ≡ a = cc in let j : c ≡ e = cc in rw (← i, ← j) p in
-      walks_message v una a e y (let i : u ≡ v = cc in n ∙ rw i) m w
-  walk_message k (seeks_nothing p) v a e q x' y w = absurd (let z : ◌≡◌ {A = ℕ} 0 1 = cc in omega arith)
-  walk_message k (seeks_refused f p) v a e q x' y w = absurd (let z : ◌≡◌ {A = ℕ} 0 1 = cc in omega arith)
+module _ (s : List ℕ) (at : ℕ) (x : Lists) (r : Result Characters Refusal) (c : r ≡ read_by s) where
+  pub walk_unread : (f : Refusal) → r ≡ Err f → Walks s at x x (Err f)
+  walk_unread f e = walks_refused f (unread s r c f e at) refl
 
-  pub walk_nothing : (k : Sought) → Seeks s at k → k ≡ sought.Nothing → Walks s at x x walked.Nothing
-  walk_nothing k (seeks_message u una b c n p) q = absurd (let z : ◌≡◌ {A = ℕ} 0 1 = cc in omega arith)
-  walk_nothing k (seeks_nothing p) q = walks_nothing p refl
-  walk_nothing k (seeks_refused f p) q = absurd (let z : ◌≡◌ {A = ℕ} 0 1 = cc in omega arith)
+  module _ (c' : Characters) (h : r ≡ Ok c') (k : Found) (d : k ≡ step_at c'.service s at) where
+    pub walk_refused : (f : Refusal) → k ≡ Err f → Walks s at x x (Err f)
+    walk_refused f e = let w = read s r c c' h in walks_refused f (sym e ∙ d ∙ w.steps at) refl
 
-  pub walk_refused : (k : Sought) → Seeks s at k → (f : Refusal) → k ≡ sought.Refused f → Walks s at x x (walked.Refused f)
-  walk_refused k (seeks_message u una b c n p) f q = absurd (let z : ◌≡◌ {A = ℕ} 0 1 = cc in omega arith)
-  walk_refused k (seeks_nothing p) f q = absurd (let z : ◌≡◌ {A = ℕ} 0 1 = cc in omega arith)
-  walk_refused k (seeks_refused g p) f q = walks_refused f (let i : g ≡ f = cc in rw (← i) p) refl
+    module _ (o : Option Span) (q : k ≡ Ok o) where
+      pub walk_nothing : o ≡ None → Walks s at x x (Ok None)
+      walk_nothing e = let w = read s r c c' h in walks_nothing (sym (ap Ok e) ∙ sym q ∙ d ∙ w.steps at) refl
+
+      pub walk_message : (m : Span) → o ≡ Some m → (x' : Lists) (y : Report) → Reported c'.service (take (m.end - m.start) (drop m.start s)) x x' y → Walks s at x x' (Ok (Some (record { start = m.start; end = m.end; report = y })))
+      walk_message m i x' y z = let w = read s r c c' h in walks_message c'.service w.una m.start m.end y w.named (sought c'.service s at k d o q m i ∙ w.steps at) z
 
 -- ---- no second answer
 pub other : (a e : ℕ) → message a e ≡ nothing → ⊥
@@ -55,9 +56,9 @@ pub one_walk : (s : List ℕ) (at : ℕ) (x x1 x2 : Lists) (w u : Walked) → Wa
 one_walk s at x x1 x2 w u (walks_message v una a e y c p z) (walks_message v' una' a' e' y' c' p' z') =
     let n : Fit v una ≡ Fit v' una' = sym c ∙ c' in
     let m : message a e ≡ message a' e' = p ∙ sym p' in
-    let i : v ≡ v' = cc in
-    let j : a ≡ a' = cc in
-    let k : e ≡ e' = cc in
+    let i : v ≡ v' = (same_fit v v' una una' n).0 in
+    let j = one_start a e a' e' m in
+    let k = one_end a e a' e' m in
     let g = one_report v' (between s a' e') x x1 x2 y y' (reported_at s x x1 y v v' a a' e e' i j k z) z' in
     λ d. left (walked.Message (j d) (k d) (g d).answer) (g d).lists
 one_walk s at x x1 x2 w u (walks_message v una a e y c p z) (walks_nothing p' b) = absurd (other a e (p ∙ sym p'))

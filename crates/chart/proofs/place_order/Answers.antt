@@ -1,7 +1,0 @@
--- PAYMUL's table passes the tests.
-use Rattle.std.proofs.Common.{rules}
-use Rattle.chart.proofs.Tables.{paymul_at}
-use Rattle.chart.proofs.place_order.Goals as goal
-
-pub place_all-requires : goal.place_all-requires
-place_all-requires c = search (paymul_at, rules)
