@@ -73,7 +73,7 @@ pub struct Closing {
     pub strays: u64,
 }
 
-// A refusal that speaks of the whole interchange.
+// A refusal that speaks of the whole interchange. 0 and no Option: the definition `refusal` says 0, and so does what C receives.
 pub fn refuse(number: Number) -> Refusal
     ensures { result ≡ refusal number }
 {
@@ -381,6 +381,7 @@ fn close_with(text: Text<'_>, una: usize) -> Result<Closing, Refusal>
 {
     let first = header_of(text, una)?;
     let found = survey_of(after(text, first))?;
+    // No From: a survey and the fault beside it make a closing only here.
     Ok(Closing {
         fault: closing_fault(text, first, found),
         messages: found.messages,
@@ -388,7 +389,8 @@ fn close_with(text: Text<'_>, una: usize) -> Result<Closing, Refusal>
     })
 }
 
-// Counts the messages and the strays, and compares the UNZ with them and with the UNB: one walk over the segments, which also finds 4.
+// Counts the messages and the strays, and compares the UNZ with them and with the UNB: one walk over the segments, which also finds 4. A generic function
+// for it and `open` would take `close_with` or `open_with` and its clause as arguments.
 #[tactic(auto, using(crate::specs::Laws::ClosingLaws::is_closing, crate::specs::Laws::CloseLaws::close_unread, crate::specs::Laws::CloseLaws::close_read))]
 pub fn close(s: &[u8]) -> Result<Closing, Refusal>
     ensures { ClosedAs s.now result }

@@ -19,14 +19,15 @@ pub fn low16(x: usize) -> u16
     (x % 65536) as u16
 }
 
-// A number that fits 32 bits: the remainder likewise. Two functions and no generic one: std has no trait for a remainder.
+// A number that fits 32 bits: the remainder likewise. Two functions and no generic one: no trait narrows with
+// loss, so each needs an `as` of its own.
 pub fn low32(x: usize) -> u32
     ensures { result ≡ x % 4294967296 }
 {
     (x % 4294967296) as u32
 }
 
-// Puts a byte at `j`, if the room reaches so far, and gives the place past it.
+// Puts a byte at `j`, if the room reaches so far, and gives the place past it. Room and place are two values: `Puts` speaks of the place before and after.
 #[tactic(auto, using(crate::specs::Laws::PutsLaws::puts_set, crate::specs::Laws::PutsLaws::puts_full, crate::specs::Laws::PutsLaws::set_full, crate::specs::Laws::PutsLaws::past_set, crate::specs::Laws::PutsLaws::past_full))]
 pub fn put(out: &mut [u8], j: usize, b: u8) -> usize
     ensures puts { Puts j (b ∷ []) out.old out.new result }

@@ -73,6 +73,7 @@ pub fn message_line(place: u64, told: Result<Counts, Refusal>, room: &mut [u8]) 
     match told {
         Ok(c) => {
             put(&mut line, b" OK");
+            // `as`: `usize` has no `From` for it.
             end(
                 line,
                 &[c.segments as u64, c.orders as u64, c.payments as u64],
@@ -94,8 +95,8 @@ pub fn message_line(place: u64, told: Result<Counts, Refusal>, room: &mut [u8]) 
     }
 }
 
-// Any number is written, also one outside the table: `end_line` promises it of each.
 // Writes the last line over the front of `room`, and gives its length; 0 if it does not fit.
+// Any number is written, also one outside the table: `end_line` promises it of each.
 pub fn end_line(messages: u64, accepted: u64, strays: u64, closing: u64, room: &mut [u8]) -> usize
     ensures lined { Lined (end_line messages accepted strays closing) room.old room.new result }
     ensures closing_len_bound { length (end_line messages accepted strays closing) ≤ 128 }
@@ -105,8 +106,8 @@ pub fn end_line(messages: u64, accepted: u64, strays: u64, closing: u64, room: &
     end(line, &[messages, accepted, strays, closing], room)
 }
 
-// Any number is written, also one outside the table: `open_line` promises it of each.
 // Writes the line of a failed opening over the front of `room`, and gives its length; 0 if it does not fit.
+// Any number is written, also one outside the table: `open_line` promises it of each.
 pub fn open_line(number: u64, room: &mut [u8]) -> usize
     ensures lined { Lined (open_line number) room.old room.new result }
     ensures number_len_bound { length (open_line number) ≤ 128 }

@@ -10,7 +10,8 @@ use lent::Lists;
 use segments::Text;
 use table::Row;
 
-// The row and the start of a segment, written after those of `k` others.
+// The row and the start of a segment, written after those of `k` others. Here and in `put_total` a list and the place in it go apart: `SegmentPut` and
+// `TotalPut` speak of each.
 #[tactic(auto, using(crate::proofs::Segments::segment_put))]
 fn put_segment(at: usize, row: usize, k: usize, rows: &mut [u16], starts: &mut [u32])
     requires k_in_bounds { k < length rows.old }
@@ -43,7 +44,7 @@ fn put_total(
 }
 
 // The row on a table and the start of each of the first `segments` segments, and the total of each of the first `orders` orders among them; nothing where a list is too short.
-// Over the segments, and not over `Places` of rule: a place counts from 1, so that an index would be counted back, and `lists_after` tells the starts and the rows apart.
+// Over the segments: `lists_after` takes the starts and the rows from lists of their own, and `Places` is inside rule.
 #[tactic(auto, using(crate::specs::Laws::ListingLaws::short_rows, crate::specs::Laws::ListingLaws::short_starts, crate::specs::Laws::ListingLaws::short_totals, crate::proofs::Segments::listing_room_totals))]
 pub fn put_lists(text: Text<'_>, t: &[Row], segments: usize, orders: usize, lists: &mut Lists<'_>)
     ensures after { lent lists.new ≡ lists_after t.now text.entry.service text.entry.bytes.now segments orders (lent lists.old) }

@@ -14,7 +14,8 @@ use rule::{Counts, Place, Rule};
 use segments::Text;
 use values::codes;
 
-// The number of the LIN last seen. No number that a value writes reaches the end of the range, so a count may stop there.
+// The number of the LIN last seen. No number that a value writes reaches the end of the range, so a count may stop there. LIN and SEQ are
+// counted apart, each in a struct of its own, so that neither count can be taken for the other.
 #[derive(Clone, Copy, Debug, PartialEq, Eq)]
 struct LineNumber(u64);
 

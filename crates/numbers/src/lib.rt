@@ -52,6 +52,7 @@ impl From<Number> for u32 {
     ghost from_gives = { λ r n. n ≡ table_number r };
 
     fn from(number: Number) -> u32 {
+        // `as` gives the discriminant of a case; there is no other form.
         number as u32
     }
 }

@@ -9,6 +9,7 @@ ghost use Rattle.parts.specs.Parts.{value_of, elements, value_at};
 
 use segments::{Class, Text};
 
+// `Stop` is a case and no Option, as the definition `token_at` says; the reader `Tokens` gives an Option of a `Part`.
 #[derive(Clone, Copy, Debug, PartialEq, Eq)]
 pub enum Token {
     Byte(u8, usize),
@@ -85,7 +86,8 @@ impl<'a> Iterator for Tokens<'a> {
     }
 }
 
-// The position of element `e` of the segment that begins at `at`, or of the segment's end. The place is the answer, and an iterator would hide it.
+// The position of element `e` of the segment that begins at `at`, or of the segment's end. A loop over `Tokens` would be no shorter: it counts elements and
+// not tokens, and the place is the answer.
 #[tactic(auto, using(crate::proofs::Laws::LexLaws::less_byte, crate::proofs::Laws::LexLaws::less_comp, crate::proofs::Laws::LexLaws::less_elem, crate::proofs::Laws::LexLaws::elem_here, crate::proofs::Laws::LexLaws::elem_byte, crate::proofs::Laws::LexLaws::elem_comp, crate::proofs::Laws::LexLaws::elem_elem, crate::proofs::Laws::LexLaws::elem_stop))]
 fn element(text: Text<'_>, at: usize, e: usize) -> usize
     ensures { tokens text.entry result ≡ elem_at e (tokens text.entry at) }

@@ -63,7 +63,7 @@ fn put_end<W: Write>(out: &mut W, s: &[u8], accepted: u64, c: Closing) -> io::Re
     requires { LineOf s.now (end_line c.messages accepted c.strays (number_told c.fault)) }
     ensures { OnOk result (Appends (W.contents out.old) (W.contents out.new) (end_line c.messages accepted c.strays (number_told c.fault))) }
 {
-    let number = numbers::told(c.fault) as u64;
+    let number = u64::from(numbers::told(c.fault));
     put_line(out, s, |room| {
         lines::end_line(c.messages, accepted, c.strays, number, room)
     })
@@ -74,7 +74,7 @@ fn put_open<W: Write>(out: &mut W, s: &[u8], told: Number) -> io::Result<()>
     requires { LineOf s.now (open_line (table_number told)) }
     ensures { OnOk result (Appends (W.contents out.old) (W.contents out.new) (open_line (table_number told))) }
 {
-    let number = u32::from(told) as u64;
+    let number = u64::from(u32::from(told));
     put_line(out, s, |room| lines::open_line(number, room))
 }
 
@@ -111,7 +111,7 @@ fn put_messages<W: Write>(out: &mut W, s: &[u8]) -> (u64, io::Result<()>)
     let mut place: u64 = 0;
     let mut accepted: u64 = 0;
     let mut written = Ok(());
-    // No `for`: the next position is told by the message before.
+    // No `for`: an iterator over messages would state `WalksAt` once more, for this loop alone.
     while let Ok(Some(found)) = walk_from(s, at) {
         place += 1;
         written = written.and(put_message(out, s, place, found.report));

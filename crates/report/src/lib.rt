@@ -163,6 +163,7 @@ fn rule_fault(text: Text<'_>, kind: Kind, t: Tally) -> Option<Fault>
     ensures { told_of result ≡ least_of (tell_all ((means kind).rules t.segments t.orders (placed_on (table_of kind) text.entry.service text.entry.bytes.now))) }
 {
     let chart = kinds::table(kind);
+    // `as`: `usize` has no `From` for it.
     match kind {
         Kind::Paymul => rules::judge(text, chart, t.segments as u64, t.orders as u64),
         Kind::Debmul => advice::judge(text, chart, t.segments as u64),
@@ -194,7 +195,7 @@ fn refusal_of_byte(text: Text<'_>, at: usize) -> Refusal
     }
 }
 
-// Where a segment begins, by its place counted from 1.
+// Where a segment begins, by its place counted from 1; 0 is no segment, as the definition `start_by` says.
 #[tactic(auto, using(crate::specs::Laws::ChecksLaws::start_none, crate::specs::Laws::ChecksLaws::start_some))]
 fn start_of(text: Text<'_>, segment: usize) -> usize
     ensures { result ≡ start_by text.entry.service text.entry.bytes.now segment }
@@ -259,6 +260,7 @@ fn judge_placed(
     if let Some(fault) = late_fault(text, kind, misfit, t) {
         return Err(refusal_at(text, fault));
     }
+    // No From: a part of the tally makes counts only here.
     Ok(Counts {
         segments: t.segments,
         orders: t.orders,

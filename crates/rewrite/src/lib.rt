@@ -102,7 +102,8 @@ fn total_length(text: Text<'_>, at: usize) -> usize
 }
 
 // The room and the place in it go hand in hand as two values, and are no struct: `Puts` and the theorems over it speak of the place before and after.
-// Counting and writing stand apart: whether the room is enough is known before a byte is put.
+// Counting and writing stand apart: whether the room is enough is known before a byte is put, and one function over a sink would have to state the length
+// and `Puts` in one clause.
 
 // Puts a byte `n` times from `j` on, and gives the place past it.
 #[tactic(auto, using(crate::specs::Laws::PutsLaws::times_start, crate::specs::Laws::PutsLaws::times_put, crate::specs::Laws::PutsLaws::times_done))]

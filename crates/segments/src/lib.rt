@@ -22,7 +22,8 @@ pub enum Class {
     Term,
 }
 
-// What stands at a position. The reader `Segments` gives an Option of a `Piece`; here the case of no byte stands beside the others, as in the definitions.
+// What stands at a position. The reader `Segments` gives an Option of a `Piece`; here the case of no byte stands beside the others, as in the
+// definition `segment_at`.
 #[derive(Clone, Copy, Debug, PartialEq, Eq)]
 pub enum Segment {
     // A segment with its terminator at the first place, and the next one, if any, at the second.

@@ -8,14 +8,15 @@ ghost use Rattle.service.specs.Service.{plain_service, is_alphanumeric, serves, 
 pub struct Service {
     pub component: u8,
     pub element: u8,
-    // The byte named as the release, whether it releases or is a space, which does not: no Option, since the definitions speak of the byte in both cases.
+    // The byte named as the release, whether it releases or is a space, which does not: no Option, since the definition `follows_release` compares with
+    // the byte in both cases.
     pub release: u8,
     pub releases: bool,
     pub terminator: u8,
 }
 
-// The characters that serve an interchange, and the length of the UNA that names them: 9, or 0 without UNA. A length and no Option: the first
-// segment is looked for from it on.
+// The characters that serve an interchange, and the length of the UNA that names them: 9, or 0 without UNA. A length and no Option: the
+// definition `first_at` goes on from it.
 #[derive(Clone, Copy, Debug, PartialEq, Eq)]
 pub struct Characters {
     pub service: Service,
@@ -51,7 +52,8 @@ pub fn is_mark(b: u8) -> bool
     b == b',' || b == b'.'
 }
 
-// Whether the byte is none of the four.
+// Whether the byte is none of the four. By number, here and below, and no function of a list: `among` and `distinct` of a list that is written out unfold to
+// these tests.
 #[tactic(auto, unfolding(crate::specs::Service::among))]
 fn is_none_of(b: u8, w: u8, x: u8, y: u8, z: u8) -> bool
     ensures { result ≡ not (among b (w ∷ x ∷ y ∷ z ∷ [])) }

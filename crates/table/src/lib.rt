@@ -14,7 +14,7 @@ pub enum Status {
     NotUsed,
 }
 
-// Rows name one another by number, and not by reference: a constant table needs no heap, and `OUTSIDE` is past each table.
+// Rows name one another by number, as the definitions of a table do.
 #[derive(Clone, Copy, Debug, PartialEq, Eq)]
 pub struct Row {
     pub tag: [u8; 3],
@@ -55,7 +55,7 @@ impl Row {
     }
 }
 
-// The parent of the message's own row.
+// The parent of the message's own row. 255 and no Option: the definitions `outside` and `next_of` go on from it, past each table.
 pub const OUTSIDE: u8 = 255;
 
 // Rows, each by its tag, its parent, the first row past those inside it, the letter of its status, and how often it may come.

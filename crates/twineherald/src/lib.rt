@@ -15,6 +15,7 @@ use report::Counts;
 use segments::Text;
 use walk::Walked;
 
+// Numbers, 0 for none, and lists apart: the C interface.
 #[repr(C)]
 #[derive(Clone, Copy, Debug, PartialEq, Eq)]
 pub struct ReportNumbers {

@@ -9,6 +9,7 @@ macro_rules! code {
     (@onto $code:expr,) => {
         $code
     };
+    // `as`: a constant cannot be made by `From`.
     (@onto $code:expr, $letter:literal $($more:literal)*) => {
         code!(@onto $code * 256 + $letter as u64, $($more)*)
     };

@@ -1,5 +1,5 @@
 // What the values of a segment say: compared, measured, read as codes, numbers and amounts. A value is given by its segment, element and component, or by
-// the position where it begins.
+// the position where it begins: the definition `value_in` names it so.
 #![tactic(auto)]
 
 ghost use Rattle.std.specs.Prelude.{◌≡◌, ◌≤◌, length};
