@@ -6,7 +6,7 @@ ghost use Rattle.std.specs.Prelude.{◌≡◌, ◌≤◌, length};
 ghost use Rattle.std.specs.Iterator.{YieldsFirst, item_count};
 ghost use Rattle.values.specs.Numbers.{value_from, value_in};
 ghost use Rattle.values.specs.Left.{value_left};
-ghost use Rattle.values.specs.Forms.Values.{number_of, digit_more, part_of, whole_of, fraction, amount_of, code_of, is_number, is_capital, is_capitals};
+ghost use Rattle.values.specs.Forms.Values.{number_of, digit_more, most_of, part_of, whole_of, fraction, amount_of, code_of, is_number, is_capital, is_capitals};
 ghost use Rattle.values.specs.Text.{same_list};
 
 pub mod codes;
@@ -65,11 +65,30 @@ fn code(value: Value<'_>) -> u64
     code
 }
 
-// The number that one read before, if any, and then the digit `b` write: no leading zero, and none where the one before is above `most`.
+// How many digits may be written: the nineteen of a number, or the twelve of a whole part.
+#[derive(Clone, Copy)]
+enum Limit {
+    Nineteen,
+    Twelve,
+}
+
+impl Limit {
+    // The greatest number after which one digit more may stand. That digit fits, whichever limit it is.
+    fn most(self) -> u64
+        ensures most { result ≡ most_of self }
+        ensures fits { result ≤ 999999999999999999 }
+    {
+        match self {
+            Limit::Nineteen => EIGHTEEN_DIGITS,
+            Limit::Twelve => ELEVEN_DIGITS,
+        }
+    }
+}
+
+// The number that one read before, if any, and then the digit `b` write: no leading zero, and no digit more than the limit allows.
 #[tactic(auto, unfolding(crate::specs::Forms::Values::digit_more))]
-fn one_more(before: Option<u64>, b: u8, most: u64) -> Option<u64>
-    requires { most ≤ 999999999999999999 }
-    ensures { result ≡ digit_more most before b }
+fn one_more(before: Option<u64>, b: u8, limit: Limit) -> Option<u64>
+    ensures { result ≡ digit_more (most_of limit) before b }
 {
     if !b.is_ascii_digit() {
         return None;
@@ -78,7 +97,7 @@ fn one_more(before: Option<u64>, b: u8, most: u64) -> Option<u64>
     match before {
         None => Some(digit),
         Some(n) => {
-            if most < n || n == 0 {
+            if limit.most() < n || n == 0 {
                 None
             } else {
                 Some(n * 10 + digit)
@@ -94,7 +113,7 @@ fn number(value: Value<'_>) -> Option<u64>
 {
     let mut number = None;
     for b in value {
-        number = Some(one_more(number, b, EIGHTEEN_DIGITS)?);
+        number = Some(one_more(number, b, Limit::Nineteen)?);
     }
     number
 }
@@ -110,7 +129,7 @@ fn whole(mut value: Value<'_>) -> Option<(u64, Option<Value<'_>>)>
         if service::is_mark(b) {
             return Some((units.unwrap_or(0), Some(value)));
         }
-        units = Some(one_more(units, b, ELEVEN_DIGITS)?);
+        units = Some(one_more(units, b, Limit::Twelve)?);
     }
     Some((units?, None))
 }

@@ -3,6 +3,8 @@ use Rattle.std.specs.Prelude.{ℕ, ◌+◌, ◌*◌, ◌-◌, ◌/◌, ◌%◌, 
 use Rattle.service.specs.Service.{is_mark}
 use Rattle.service.specs.Tests.{if}
 use Rattle.values.specs.declared.Value.{Value}
+use Rattle.values.specs.declared.Limit.{Limit}
+use Rattle.values.specs.declared.Limit.TheVariants.{Nineteen, Twelve}
 use Rattle.values.specs.Left.{value_left}
 
 -- the number that digits write after `acc`, `count` digits of which some were read: no leading zero, below 10^19
@@ -30,6 +32,11 @@ one_more count acc b =
 unfoldable pub digit_more : ℕ → Option ℕ → ℕ → Option ℕ
 digit_more most None b = if (ltb b 48) None (if (ltb 57 b) None (Some (b - 48)))
 digit_more most (Some n) b = if (ltb b 48) None (if (ltb 57 b) None (if (ltb most n) None (if (eqb n 0) None (Some (n * 10 + (b - 48))))))
+
+-- the greatest number after which a limit allows one digit more: of eighteen digits, or of eleven
+abbrev pub most_of : Limit → ℕ
+most_of Nineteen = 999999999999999999
+most_of Twelve = 99999999999
 
 -- whether a number was read, as the count of `digits`, and that number
 abbrev pub count_of : Option ℕ → ℕ

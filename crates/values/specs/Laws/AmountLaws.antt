@@ -45,11 +45,11 @@ module _ (x : Option ℕ) (w sum : ℕ) (l : List ℕ) (inv : x ≡ fraction w s
     frac_by : x ≡ fraction w sum (b ∷ k)
     frac_by = inv ∙ ap (fraction w sum) e
 
-    frac_low : b < 48 → None ≡ x
+    pub frac_low : b < 48 → None ≡ x
     unfolding fraction
     frac_low h = sym (frac_by ∙ simp (lt-ltb _ _ h))
 
-    frac_high : 48 ≤ b → 57 < b → None ≡ x
+    pub frac_high : 48 ≤ b → 57 < b → None ≡ x
     unfolding fraction
     frac_high h g = sym (frac_by ∙ simp (le-ltb _ _ h, lt-ltb _ _ g))
 
