@@ -2,15 +2,14 @@
 #![tactic(auto)]
 
 ghost use Rattle.std.specs.Prelude.{◌≡◌};
-ghost use Rattle.numbers.specs.Table.{table_number};
-ghost use Rattle.faults.specs.Firsts.{lesser, place_unless, told_of, number_first};
+ghost use Rattle.faults.specs.Firsts.{lesser, place_unless, told_by, number_first};
 
-use numbers::Number;
+use numbers::{Number, Numbered};
 
-// Why a message is refused, and the segment at fault, as its place among the message's.
+// Why a message is refused, a case of the table where nothing else is said, and the segment at fault, as its place among the message's.
 #[derive(Clone, Copy, Debug, PartialEq, Eq)]
-pub struct Fault {
-    pub number: Number,
+pub struct Fault<N = Number> {
+    pub number: N,
     pub segment: usize,
 }
 
@@ -39,9 +38,9 @@ pub fn keep(first: Option<usize>, holds: bool, at: usize) -> Option<usize>
     earlier(first, unless(holds, at))
 }
 
-// The fault of the number, if it has a place, before any other fault.
-pub fn before(number: Number, first: Option<usize>, other: Option<Fault>) -> Option<Fault>
-    ensures { told_of result ≡ number_first (table_number number) first (told_of other) }
+// The fault of the number, if it has a place, before any other fault. Any number is told, also one outside the table.
+pub fn before<N: Numbered>(number: N, first: Option<usize>, other: Option<Fault<N>>) -> Option<Fault<N>>
+    ensures { told_by N.number result ≡ number_first (N.number number) first (told_by N.number other) }
 {
     first.map(|segment| Fault { number, segment }).or(other)
 }

@@ -23,10 +23,10 @@ use values::codes;
 // The most bytes of an interchange.
 pub const MOST: usize = 1048576;
 
-// A case of the table, a segment (the UNH is 1) and an offset from the UNH's first byte.
+// A number, which is a case of the table where nothing else is said, a segment (the UNH is 1) and an offset from the UNH's first byte.
 #[derive(Clone, Copy, Debug, PartialEq, Eq, Hash)]
-pub struct Refusal {
-    pub number: Number,
+pub struct Refusal<N = Number> {
+    pub number: N,
     pub segment: u32,
     pub offset: u32,
 }
@@ -73,8 +73,8 @@ pub struct Closing {
     pub strays: u64,
 }
 
-// A refusal that speaks of the whole interchange. 0 and no Option: the definition `refusal` says 0, and so does what C receives.
-pub fn refuse(number: Number) -> Refusal
+// A refusal that speaks of the whole interchange, by any number. 0 and no Option: the definition `refusal` says 0, and so does what C receives.
+pub fn refuse<N>(number: N) -> Refusal<N>
     ensures { result ≡ refusal number }
 {
     Refusal {

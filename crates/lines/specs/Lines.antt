@@ -1,8 +1,10 @@
 -- The lines of the report program, as document 01, "Cases", says.
-use Rattle.std.specs.Prelude.{ℕ, suc, zero, ◌+◌, ◌/◌, ◌%◌, ◌≡◌, cond, List, [], ◌∷◌, ◌++◌, length, ltb, leb, Ok, Err}
+use Rattle.std.specs.Prelude.{ℕ, suc, zero, ◌+◌, ◌/◌, ◌%◌, ◌≡◌, cond, List, [], ◌∷◌, ◌++◌, length, ltb, leb, Result, Ok, Err}
 use Rattle.numbers.specs.Table.{table_number}
+use Rattle.interchange.specs.declared.Refusal.{Refusal}
 use Rattle.lent.specs.Over.{over}
 use Rattle.values.specs.Text.{text}
+use Rattle.report.specs.declared.Counts.{Counts}
 use Rattle.report.specs.Answers.{Report}
 
 -- the digits "0" to "9" as bytes
@@ -28,10 +30,14 @@ unfoldable pub line : List (List ℕ) → List ℕ
 line [] = text "\n"
 line (w ∷ l) = w ++ spaced l
 
--- "MSG: place, NO, number, segment, offset; or place, OK, segments, orders, payments."
+-- "MSG: place, NO, number, segment, offset; or place, OK, segments, orders, payments.", by the number of what a refusal names
+abbrev pub message_line_by : {N : Type 0} → (N → ℕ) → ℕ → Result Counts (Refusal N) → List ℕ
+message_line_by number place (Err f) = line (text "MSG" ∷ decimal place ∷ text "NO" ∷ decimal (number f.number) ∷ decimal f.segment ∷ decimal f.offset ∷ [])
+message_line_by number place (Ok c) = line (text "MSG" ∷ decimal place ∷ text "OK" ∷ decimal c.segments ∷ decimal c.orders ∷ decimal c.payments ∷ [])
+
+-- the line of a report, whose refusal names a case of the table
 abbrev pub message_line : ℕ → Report → List ℕ
-message_line place (Err f) = line (text "MSG" ∷ decimal place ∷ text "NO" ∷ decimal (table_number f.number) ∷ decimal f.segment ∷ decimal f.offset ∷ [])
-message_line place (Ok c) = line (text "MSG" ∷ decimal place ∷ text "OK" ∷ decimal c.segments ∷ decimal c.orders ∷ decimal c.payments ∷ [])
+message_line place told = message_line_by table_number place told
 
 -- "END: messages, accepted, strays, closing number (0 for none)."
 abbrev pub end_line : ℕ → ℕ → ℕ → ℕ → List ℕ

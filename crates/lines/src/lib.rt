@@ -5,13 +5,13 @@
 ghost use Rattle.std.specs.Prelude.{◌≡◌, ◌≤◌, ◌<◌, ◌+◌, ◌*◌, ◌++◌, length};
 ghost use Rattle.arrayvec.specs.ArrayVec.{array_vec_len};
 ghost use Rattle.values.specs.Text.{text};
-ghost use Rattle.report.specs.Answers.{Report};
-ghost use Rattle.lines.specs.Lines.{message_line, end_line, open_line, Lined};
+ghost use Rattle.lines.specs.Lines.{message_line_by, end_line, open_line, Lined};
 ghost use Rattle.lines.specs.Forms.Numbers.{numbers};
 
 use arrayvec::ArrayVec;
 use interchange::Refusal;
 use itoa::Buffer;
+use numbers::Numbered;
 use report::Counts;
 
 // A line while it is written: no line is longer.
@@ -63,9 +63,10 @@ fn end(mut line: Line, list: &[u64], room: &mut [u8]) -> usize
 }
 
 // Writes the line of a message over the front of `room`, and gives its length; 0 if it does not fit.
-pub fn message_line(place: u64, told: Result<Counts, Refusal>, room: &mut [u8]) -> usize
-    ensures lined { Lined (message_line place told) room.old room.new result }
-    ensures told_len_bound { length (message_line place told) ≤ 128 }
+// Any number is written, also one outside the table: `message_line_by` promises it of each.
+pub fn message_line<N: Numbered>(place: u64, told: Result<Counts, Refusal<N>>, room: &mut [u8]) -> usize
+    ensures lined { Lined (message_line_by N.number place told) room.old room.new result }
+    ensures told_len_bound { length (message_line_by N.number place told) ≤ 128 }
 {
     let mut line = Line::new();
     put(&mut line, b"MSG");
@@ -85,7 +86,7 @@ pub fn message_line(place: u64, told: Result<Counts, Refusal>, room: &mut [u8]) 
             end(
                 line,
                 &[
-                    u64::from(u32::from(f.number)),
+                    u64::from(f.number.number()),
                     u64::from(f.segment),
                     u64::from(f.offset),
                 ],

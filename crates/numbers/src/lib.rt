@@ -1,7 +1,7 @@
 // The table of refusals: a case for each, and its number.
 #![tactic(auto)]
 
-ghost use Rattle.std.specs.Prelude.{◌≡◌};
+ghost use Rattle.std.specs.Prelude.{◌≡◌, ℕ};
 ghost use Rattle.numbers.specs.Table.{table_number, number_told};
 
 // Why something is refused. A case stands in the table under its number; there is no 15 and no 19.
@@ -54,6 +54,31 @@ impl From<Number> for u32 {
     fn from(number: Number) -> u32 {
         // `as` gives the discriminant of a case; there is no other form.
         number as u32
+    }
+}
+
+// What has a number: a case of the table its own, and any number itself.
+pub trait Numbered: Copy {
+    ghost number: { Self → ℕ };
+
+    // The number.
+    fn number(self) -> u32
+        ensures { result ≡ number self };
+}
+
+impl Numbered for Number {
+    ghost number = { table_number };
+
+    fn number(self) -> u32 {
+        u32::from(self)
+    }
+}
+
+impl Numbered for u32 {
+    ghost number = { λ n. n };
+
+    fn number(self) -> u32 {
+        self
     }
 }
 

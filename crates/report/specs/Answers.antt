@@ -1,6 +1,6 @@
 -- What a check answers: the counts of an accepted message, or a refusal.
 use Rattle.std.specs.Prelude.{Result, Ok, Err}
-use Rattle.interchange.specs.declared.Refusal.{Refusal}
+use Rattle.interchange.specs.Answers.{Refusal}
 use Rattle.report.specs.declared.Counts.{Counts}
 
 abbrev pub Report : Type 0

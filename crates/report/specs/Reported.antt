@@ -9,7 +9,7 @@ use Rattle.segments.specs.SegmentList.{start_of, segments_from, starts_of, start
 use Rattle.parts.specs.Parts.{strange_in}
 use Rattle.values.specs.Text.{says}
 use Rattle.values.specs.Numbers.{value_in}
-use Rattle.interchange.specs.declared.Refusal.{Refusal}
+use Rattle.interchange.specs.Answers.{Refusal}
 use Rattle.interchange.specs.Messages.{ends_closed}
 use Rattle.interchange.specs.Envelope.{is_reference}
 use Rattle.lent.specs.Lists.{Lists, lists}

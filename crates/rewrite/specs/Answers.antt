@@ -1,6 +1,6 @@
 -- What rewriting answers: so many bytes were written, or a refusal.
 use Rattle.std.specs.Prelude.{ℕ, Result, Ok, Err}
-use Rattle.interchange.specs.declared.Refusal.{Refusal}
+use Rattle.interchange.specs.Answers.{Refusal}
 
 abbrev pub Rewriting : Type 0
 Rewriting = Result ℕ Refusal

@@ -5,7 +5,7 @@ use Rattle.numbers.specs.Table.{number_told}
 use Rattle.numbers.specs.declared.Number.TheVariants as numbers
 use Rattle.service.specs.declared.Service.{Service}
 use Rattle.service.specs.Service.{Fit, Unfit, characters_of}
-use Rattle.interchange.specs.declared.Refusal.{Refusal}
+use Rattle.interchange.specs.Answers.{Refusal}
 use Rattle.interchange.specs.Answers.{Opening}
 use Rattle.interchange.specs.Answers.{Closing}
 use Rattle.interchange.specs.Envelope.{refusal, opening_number}

@@ -5,7 +5,7 @@ use Rattle.service.specs.declared.Service.{Service}
 use Rattle.service.specs.declared.Characters.{Characters}
 use Rattle.service.specs.Service.{characters_of}
 use Rattle.service.specs.Tests.{if}
-use Rattle.interchange.specs.declared.Refusal.{Refusal}
+use Rattle.interchange.specs.Answers.{Refusal}
 use Rattle.interchange.specs.Answers.{Found, refusal}
 use Rattle.interchange.specs.Finds as found
 use Rattle.interchange.specs.Messages.{found_from}

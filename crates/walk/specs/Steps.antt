@@ -1,6 +1,6 @@
 -- What the walk answers: a message from a up to but excluding e with its report, that none is left, or a refusal.
 use Rattle.std.specs.Prelude.{ℕ, Option, None, Some, Result, Ok, Err}
-use Rattle.interchange.specs.declared.Refusal.{Refusal}
+use Rattle.interchange.specs.Answers.{Refusal}
 use Rattle.report.specs.Answers.{Report}
 use Rattle.walk.specs.declared.Walked as code
 

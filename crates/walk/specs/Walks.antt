@@ -3,7 +3,7 @@ use Rattle.std.specs.Prelude.{ℕ, ◌-◌, ◌≡◌, List, take, drop}
 use Rattle.service.specs.declared.Service.{Service}
 use Rattle.service.specs.Service.{Fit}
 use Rattle.service.specs.Service.{characters_of}
-use Rattle.interchange.specs.declared.Refusal.{Refusal}
+use Rattle.interchange.specs.Answers.{Refusal}
 use Rattle.lent.specs.Lists.{Lists}
 use Rattle.report.specs.Answers.{Report}
 use Rattle.report.specs.Reported.{Reported}

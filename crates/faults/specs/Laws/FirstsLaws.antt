@@ -3,8 +3,10 @@ use Rattle.std.specs.Prelude.{ℕ, ◌≤◌, ◌<◌, ◌≡◌, refl, min, Boo
 use Rattle.std.proofs.Common.{arith, ap, leb-true, leb-false, le-leb}
 use Rattle.std.proofs.lemmas.Bool.{lt-leb}
 use Rattle.numbers.specs.Laws.TableLaws.{number_one}
-use Rattle.faults.specs.declared.Fault.{Fault}
-use Rattle.faults.specs.Firsts.{lesser_by, lesser, Told, told_of}
+use Rattle.numbers.specs.declared.Number.{Number}
+use Rattle.numbers.specs.Table.{table_number}
+use Rattle.faults.specs.declared.Fault as code
+use Rattle.faults.specs.Firsts.{lesser_by, lesser, Told, told_by, Fault, told_of}
 
 pub lesser_min : (p q : ℕ) → Some (min p q) ≡ lesser_by (leb p q) p q
 lesser_min p q = go (leb p q) refl
@@ -42,11 +44,15 @@ abbrev segment_or : Option Told → ℕ
 segment_or None = 0
 segment_or (Some a) = a.segment
 
+module _ (N : Type 0) (number : N → ℕ) (one : (a b : N) → number a ≡ number b → a ≡ b) where
+  pub fault_one_by : (f g : Option (code.Fault N)) → told_by number f ≡ told_by number g → f ≡ g
+  fault_one_by None None e = refl
+  fault_one_by None (Some g) e = absurd (let z : ◌≡◌ {A = ℕ} 0 1 = cc in omega arith)
+  fault_one_by (Some f) None e = absurd (let z : ◌≡◌ {A = ℕ} 0 1 = cc in omega arith)
+  fault_one_by (Some f) (Some g) e =
+      let p = one f.number g.number (ap number_or e) in
+      let q = ap segment_or e in
+      λ i. Some (record { number = p i; segment = q i })
+
 pub fault_one : (f g : Option Fault) → told_of f ≡ told_of g → f ≡ g
-fault_one None None e = refl
-fault_one None (Some g) e = absurd (let z : ◌≡◌ {A = ℕ} 0 1 = cc in omega arith)
-fault_one (Some f) None e = absurd (let z : ◌≡◌ {A = ℕ} 0 1 = cc in omega arith)
-fault_one (Some f) (Some g) e =
-    let p = number_one f.number g.number (ap number_or e) in
-    let q = ap segment_or e in
-    λ i. Some (record { number = p i; segment = q i })
+fault_one = fault_one_by Number table_number number_one

@@ -11,7 +11,7 @@ use Rattle.segments.specs.SegmentList.{segments_from}
 use Rattle.values.specs.Text.{same_list}
 use Rattle.values.specs.Numbers.{value_in}
 use Rattle.values.specs.Forms.Values.{number_of, is_number}
-use Rattle.interchange.specs.declared.Refusal.{Refusal}
+use Rattle.interchange.specs.Answers.{Refusal}
 use Rattle.interchange.specs.Answers.{Opening}
 use Rattle.interchange.specs.Answers.{Opens, Refused}
 use Rattle.interchange.specs.Answers.{Closing}

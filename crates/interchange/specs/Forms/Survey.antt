@@ -7,7 +7,7 @@ use Rattle.segments.specs.declared.Segment.TheVariants as segment
 use Rattle.segments.specs.Forms.Segments.{segment_at}
 use Rattle.segments.specs.declared.Piece.{Piece}
 use Rattle.segments.specs.SegmentList.{start_of}
-use Rattle.interchange.specs.declared.Refusal.{Refusal}
+use Rattle.interchange.specs.Answers.{Refusal}
 use Rattle.interchange.specs.declared.Survey.{Survey}
 use Rattle.interchange.specs.Answers.{refusal}
 use Rattle.interchange.specs.Messages.{kind_of, messages_of, strays_of}

@@ -17,7 +17,7 @@ use Rattle.values.specs.Numbers.{value_in}
 use Rattle.values.specs.Text.{same_list}
 use Rattle.values.specs.Forms.Values.{number_of, is_number}
 use Rattle.interchange.specs.declared.Survey.{Survey}
-use Rattle.interchange.specs.declared.Refusal.{Refusal}
+use Rattle.interchange.specs.Answers.{Refusal}
 use Rattle.interchange.specs.Answers.{Closing}
 use Rattle.interchange.specs.Messages.{messages_of, strays_of}
 use Rattle.interchange.specs.Envelope.{ended, first_at, refusal, last_start, body_of, message_count, stray_count, unz_at}

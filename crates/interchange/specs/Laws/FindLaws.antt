@@ -12,7 +12,7 @@ use Rattle.segments.specs.declared.Text.{Text}
 use Rattle.segments.specs.Left.{segments_left, Steps}
 use Rattle.segments.specs.SegmentList.{start_of, segments_from, all_finished}
 use Rattle.segments.specs.Laws.ListLaws.{segments_after_lem}
-use Rattle.interchange.specs.declared.Refusal.{Refusal}
+use Rattle.interchange.specs.Answers.{Refusal}
 use Rattle.interchange.specs.Answers.{Found, refusal}
 use Rattle.interchange.specs.Finds as found
 use Rattle.interchange.specs.Messages.{kind_of, past_of, Extent, closed, unclosed, starts_at, ends_at, extent_by, extent_of, messages_by, messages_of, cut_before, found_one, found_by, found_in, found_from}

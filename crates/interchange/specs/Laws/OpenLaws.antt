@@ -25,7 +25,7 @@ use Rattle.parts.specs.Parts.{lex, value_of}
 use Rattle.values.specs.Text.{text, same_list}
 use Rattle.values.specs.Numbers.{value_in}
 use Rattle.values.specs.Forms.Values.{code_of}
-use Rattle.interchange.specs.declared.Refusal.{Refusal}
+use Rattle.interchange.specs.Answers.{Refusal}
 use Rattle.interchange.specs.Answers.{Opening}
 use Rattle.interchange.specs.Answers.{Opens, Refused}
 use Rattle.interchange.specs.Messages.{tag_at}

@@ -14,7 +14,7 @@ use Rattle.segments.specs.declared.Segments.{Segments}
 use Rattle.segments.specs.declared.Text.{Text}
 use Rattle.segments.specs.Left.{segments_left, Steps}
 use Rattle.segments.specs.SegmentList.{start_of, segments_from}
-use Rattle.interchange.specs.declared.Refusal.{Refusal}
+use Rattle.interchange.specs.Answers.{Refusal}
 use Rattle.interchange.specs.declared.Survey.{Survey}
 use Rattle.interchange.specs.Answers.{refusal}
 use Rattle.interchange.specs.Messages.{kind_of, extent_of, messages_by, messages_of, stays, stray_by, strays_of}

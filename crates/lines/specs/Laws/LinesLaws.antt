@@ -1,5 +1,5 @@
 -- Lines put together. Assumes nothing.
-use Rattle.std.specs.Prelude.{ℕ, ◌+◌, ◌*◌, ◌^◌, ◌≤◌, ◌<◌, ◌≡◌, refl, List, [], ◌∷◌, ◌++◌, length, take, drop, get_or, map}
+use Rattle.std.specs.Prelude.{ℕ, ◌+◌, ◌*◌, ◌^◌, ◌≤◌, ◌<◌, ◌≡◌, refl, List, [], ◌∷◌, ◌++◌, length, take, drop, get_or, map, Result}
 use Rattle.std.proofs.Common.{arith, add-one, sym, ◌∙◌, ap, ap₂, subst, drop-cons, append_assoc, append-nil, length-append, le-leb}
 use Rattle.std.proofs.lemmas.List.{drop_all}
 use Rattle.std.proofs.Math.Seq.{take_at}
@@ -7,8 +7,9 @@ use Rattle.std.proofs.lemmas.Bool.{lt-leb}
 use Rattle.std.specs.Fmt.{decimal as decimal_of}
 use Rattle.lent.specs.Over.{over}
 use Rattle.values.specs.Text.{text}
-use Rattle.report.specs.Answers.{Report}
-use Rattle.lines.specs.Lines.{decimal, spaced, line, message_line, open_line, Lined}
+use Rattle.interchange.specs.declared.Refusal.{Refusal}
+use Rattle.report.specs.declared.Counts.{Counts}
+use Rattle.lines.specs.Lines.{decimal, spaced, line, message_line_by, open_line, Lined}
 use Rattle.lines.specs.Forms.Numbers.{numbers}
 use Rattle.lines.specs.Laws.DecimalLaws.{decimal_same, decimal_short}
 
@@ -90,13 +91,13 @@ module _ (p a b c : ℕ) (x y z : List ℕ) (q : x ≡ []) (f : y ≡ x ++ text 
   pub message_short : length (k ++ (numbers (a ∷ b ∷ c ∷ []) ++ text "\n")) ≤ 128 → length (line (text "MSG" ∷ decimal p ∷ v ∷ decimal a ∷ decimal b ∷ decimal c ∷ [])) ≤ 128
   message_short w = rw (← message_is) w
 
--- a message's, by its report
-module _ (place : ℕ) (told u : Report) (e : told ≡ u) where
-  pub told_lined : (o o' : List ℕ) (n : ℕ) → Lined (message_line place u) o o' n → Lined (message_line place told) o o' n
-  told_lined o o' n w = subst (λ (x : Report). Lined (message_line place x) o o' n) (sym e) w
+-- a message's, by its counts or its refusal
+module _ (N : Type 0) (number : N → ℕ) (place : ℕ) (told u : Result Counts (Refusal N)) (e : told ≡ u) where
+  pub told_lined : (o o' : List ℕ) (n : ℕ) → Lined (message_line_by number place u) o o' n → Lined (message_line_by number place told) o o' n
+  told_lined o o' n w = subst (λ (x : Result Counts (Refusal N)). Lined (message_line_by number place x) o o' n) (sym e) w
 
-  pub told_short : length (message_line place u) ≤ 128 → length (message_line place told) ≤ 128
-  told_short w = subst (λ (x : Report). length (message_line place x) ≤ 128) (sym e) w
+  pub told_short : length (message_line_by number place u) ≤ 128 → length (message_line_by number place told) ≤ 128
+  told_short w = subst (λ (x : Result Counts (Refusal N)). length (message_line_by number place x) ≤ 128) (sym e) w
 
 -- a word and numbers
 module _ (w l x y : List ℕ) (q : x ≡ []) (f : y ≡ x ++ w) where

@@ -12,7 +12,7 @@ use Rattle.segments.specs.SegmentList.{segments_from, start_at}
 use Rattle.values.specs.Numbers.{value_from, value_in}
 use Rattle.faults.specs.Firsts.{Told, fault_at}
 use Rattle.tally.specs.Places.{passed}
-use Rattle.interchange.specs.declared.Refusal.{Refusal}
+use Rattle.interchange.specs.Answers.{Refusal}
 use Rattle.interchange.specs.Answers.{refusal}
 use Rattle.interchange.specs.Envelope.{is_reference}
 use Rattle.chart.specs.Chart.{Reading}

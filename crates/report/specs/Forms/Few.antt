@@ -1,6 +1,6 @@
 -- Counts that 32 bits hold.
 use Rattle.std.specs.Prelude.{◌≤◌}
-use Rattle.interchange.specs.declared.Refusal.{Refusal}
+use Rattle.interchange.specs.Answers.{Refusal}
 use Rattle.report.specs.declared.Counts.{Counts}
 use Rattle.report.specs.Answers.{Report}
 use Rattle.report.specs.Answers as report

@@ -2,7 +2,7 @@
 use Rattle.std.specs.Prelude.{ℕ, ◌≡◌, List, Ok, Err}
 use Rattle.numbers.specs.Table.{table_number}
 use Rattle.service.specs.declared.Service.{Service}
-use Rattle.interchange.specs.declared.Refusal.{Refusal}
+use Rattle.interchange.specs.Answers.{Refusal}
 use Rattle.lent.specs.Lists.{Lists}
 use Rattle.listing.specs.Listing.{lists_after}
 use Rattle.chart.specs.Chart.{Reading}

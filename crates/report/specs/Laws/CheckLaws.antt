@@ -18,13 +18,13 @@ use Rattle.service.specs.Laws.FitLaws.{fits_if}
 use Rattle.service.specs.Tests.{if}
 use Rattle.segments.specs.SegmentList.{segments_from}
 use Rattle.segments.specs.Laws.StartsLaws.{starts_within}
-use Rattle.faults.specs.declared.Fault.{Fault}
+use Rattle.faults.specs.Firsts.{Fault}
 use Rattle.faults.specs.Firsts.{fault_at}
 use Rattle.faults.specs.Firsts.{lesser, place_unless, number_first}
 use Rattle.tally.specs.declared.Tally.{Tally}
 use Rattle.tally.specs.Tallied.{tally_of}
 use Rattle.tally.specs.Places.{passed}
-use Rattle.interchange.specs.declared.Refusal.{Refusal}
+use Rattle.interchange.specs.Answers.{Refusal}
 use Rattle.interchange.specs.Messages.{ends_closed}
 use Rattle.interchange.specs.Envelope.{refusal}
 use Rattle.chart.specs.Chart.{Reading}

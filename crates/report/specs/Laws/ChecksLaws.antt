@@ -19,11 +19,11 @@ use Rattle.parts.proofs.Laws.ValueLaws.{tag_value}
 use Rattle.values.specs.Numbers.{value_from, value_in}
 use Rattle.values.specs.Forms.Values.{code_from, code_of}
 use Rattle.values.specs.Forms.Codes as codes
-use Rattle.faults.specs.declared.Fault.{Fault}
+use Rattle.faults.specs.Firsts.{Fault}
 use Rattle.faults.specs.Firsts.{fault_at}
 use Rattle.tally.specs.Places.{next_start, passed}
 use Rattle.tally.specs.Laws.PlacesLaws.{starts}
-use Rattle.interchange.specs.declared.Refusal.{Refusal}
+use Rattle.interchange.specs.Answers.{Refusal}
 use Rattle.interchange.specs.Answers.{refusal}
 use Rattle.interchange.specs.Envelope.{is_reference}
 use Rattle.chart.specs.Chart.{Reading}

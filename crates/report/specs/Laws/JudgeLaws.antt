@@ -8,7 +8,7 @@ use borrow.Author.Tests.{le-leb, leb-true}
 use Rattle.service.specs.declared.Service.{Service}
 use Rattle.service.specs.Tests.{if}
 use Rattle.values.specs.Text.{says}
-use Rattle.interchange.specs.declared.Refusal.{Refusal}
+use Rattle.interchange.specs.Answers.{Refusal}
 use Rattle.lent.specs.Lists.{Lists, Left, lists}
 use Rattle.chart.specs.Chart.{Reading, Placement}
 use Rattle.chart.specs.Tags.{tags_of}

@@ -19,7 +19,7 @@ use Rattle.segments.specs.SegmentList.{start_of, segments_from, starts_from, sta
 use Rattle.segments.specs.Laws.StartsLaws.{by_place, starts_count, starts_here}
 use Rattle.parts.specs.Parts.{strange_in}
 use Rattle.tally.specs.Tallied.{first_place}
-use Rattle.interchange.specs.declared.Refusal.{Refusal}
+use Rattle.interchange.specs.Answers.{Refusal}
 use Rattle.interchange.specs.Messages.{ends_closed}
 use Rattle.lent.specs.Lists.{Lists}
 use Rattle.chart.specs.Tags.{tags_of}

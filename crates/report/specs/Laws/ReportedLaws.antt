@@ -4,7 +4,7 @@ use Rattle.std.proofs.Common.{arith, sym, ap, subst, ◌∙◌, inl, inr}
 use Rattle.numbers.specs.Laws.TableLaws.{number_one}
 use Rattle.numbers.specs.Table.{table_number}
 use Rattle.service.specs.declared.Service.{Service}
-use Rattle.interchange.specs.declared.Refusal.{Refusal}
+use Rattle.interchange.specs.Answers.{Refusal}
 use Rattle.chart.specs.Tags.{tags_of}
 use Rattle.chart.specs.Chart.{Reading}
 use Rattle.kinds.specs.declared.Kind.{Kind}

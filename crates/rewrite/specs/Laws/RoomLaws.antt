@@ -7,7 +7,7 @@ use mathlib.Core.List.{List}
 use Rattle.service.specs.Laws.ServiceLaws.{and_left, and_right}
 use Rattle.service.specs.Tests.{if}
 use Rattle.parts.specs.Trimmed.{values_from}
-use Rattle.interchange.specs.declared.Refusal.{Refusal}
+use Rattle.interchange.specs.Answers.{Refusal}
 use Rattle.interchange.specs.declared.Opened.{Opened}
 use Rattle.interchange.specs.Laws.WithinLaws.{opened_short}
 use Rattle.interchange.specs.Answers.{Opening}

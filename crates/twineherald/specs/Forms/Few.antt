@@ -1,6 +1,6 @@
 -- A step whose numbers 32 bits hold.
 use Rattle.std.specs.Prelude.{ℕ, ◌≤◌}
-use Rattle.interchange.specs.declared.Refusal.{Refusal}
+use Rattle.interchange.specs.Answers.{Refusal}
 use Rattle.report.specs.Answers.{Report}
 use Rattle.report.specs.Forms.Few.{FewIn}
 use Rattle.walk.specs.Steps.{Walked}

@@ -4,7 +4,7 @@ use Rattle.std.proofs.Common.{arith, sym, ◌∙◌, ap, subst}
 use Rattle.numbers.specs.Table.{table_number}
 use Rattle.numbers.specs.Table.{number_told}
 use Rattle.numbers.specs.declared.Number.TheVariants as numbers
-use Rattle.interchange.specs.declared.Refusal.{Refusal}
+use Rattle.interchange.specs.Answers.{Refusal}
 use Rattle.service.specs.declared.Service.{Service}
 use Rattle.service.specs.declared.Characters.{Characters}
 use Rattle.service.specs.Service.{Fit, Unfit, characters_of}

@@ -1,7 +1,7 @@
 use Rattle.std.specs.Prelude.{◌≡◌, Ok, Err, IsErrAnd}
 use Rattle.std.proofs.Math.Path.{ap}
 use Rattle.std.proofs.Common.{rules}
-use Rattle.interchange.specs.declared.Refusal.{Refusal}
+use Rattle.interchange.specs.Answers.{Refusal}
 use Rattle.walk.specs.Steps.{Walked}
 use Rattle.walk.specs.Laws.JudgesLaws.{judge_unread, judge_refused, judge_nothing, judge_message}
 use Rattle.walk.proofs.judge.Goals as goal

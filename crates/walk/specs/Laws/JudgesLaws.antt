@@ -6,7 +6,7 @@ use Rattle.service.specs.declared.Service.{Service}
 use Rattle.service.specs.Service.{Fit}
 use Rattle.service.specs.Laws.ServiceLaws.{same_fit}
 use Rattle.service.specs.Service.{characters_of}
-use Rattle.interchange.specs.declared.Refusal.{Refusal}
+use Rattle.interchange.specs.Answers.{Refusal}
 use Rattle.interchange.specs.declared.Span.{Span}
 use Rattle.interchange.specs.Answers.{Found}
 use Rattle.lent.specs.Lists.{Lists, lists}
