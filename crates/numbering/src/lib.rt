@@ -17,17 +17,17 @@ use values::codes;
 // The number of the LIN last seen. No number that a value writes reaches the end of the range, so a count may stop there. LIN and SEQ are
 // counted apart, each in a struct of its own, so that neither count can be taken for the other.
 #[derive(Clone, Copy, Debug, PartialEq, Eq)]
-struct LineNumber(u64);
+pub struct LineNumber(pub u64);
 
 // The number of the SEQ last seen under its LIN.
 #[derive(Clone, Copy, Debug, PartialEq, Eq)]
-struct SequenceNumber(u64);
+pub struct SequenceNumber(pub u64);
 
 // 20: the last LIN, which has a row of its own on each chart, and the first at fault.
 #[derive(Clone, Copy, Debug, PartialEq, Eq)]
 pub struct LineNumbers<const LIN: usize> {
-    line: LineNumber,
-    first20: Option<usize>,
+    pub line: LineNumber,
+    pub first20: Option<usize>,
 }
 
 #[tactic(auto, using(crate::proofs::Agree::agree20), unfolding(rule::specs::Refusals::by_rules, crate::specs::Steps::line_step))]
@@ -67,8 +67,8 @@ impl<const LIN: usize> Rule for LineNumbers<LIN> {
 // 21: the last SEQ under the last LIN, if a LIN was seen, and the first at fault.
 #[derive(Clone, Copy, Debug, PartialEq, Eq)]
 pub struct SequenceNumbers {
-    sequence: Option<SequenceNumber>,
-    first21: Option<usize>,
+    pub sequence: Option<SequenceNumber>,
+    pub first21: Option<usize>,
 }
 
 #[tactic(auto, using(crate::proofs::Agree::agree21, faults::specs::Laws::FirstsLaws::lesser_last), unfolding(rule::specs::Refusals::by_rules, crate::specs::Steps::sequence_step, message::specs::Forms::Run::level_step, crate::specs::Steps::count_seq, crate::specs::Steps::tell_seq))]
@@ -113,7 +113,7 @@ impl Rule for SequenceNumbers {
 // 29: the first CNT at fault.
 #[derive(Clone, Copy, Debug, PartialEq, Eq)]
 pub struct Control {
-    first29: Option<usize>,
+    pub first29: Option<usize>,
 }
 
 #[tactic(auto, using(crate::proofs::Agree::agree29, crate::proofs::Ways::two_code), unfolding(rule::specs::Refusals::by_rules, crate::specs::Steps::control_step, message::specs::Forms::Run::test_step))]

@@ -16,8 +16,8 @@ use segments::Text;
 // The first UNT, which has a row of its own on each chart, that is at fault under 17, and under 18.
 #[derive(Clone, Copy, Debug, PartialEq, Eq)]
 pub struct Trailer<const UNT: usize> {
-    first17: Option<usize>,
-    first18: Option<usize>,
+    pub first17: Option<usize>,
+    pub first18: Option<usize>,
 }
 
 #[tactic(auto, using(crate::proofs::Agree::agree17, crate::proofs::Agree::agree18, message::proofs::Laws::PlacedLaws::reference_first), unfolding(rule::specs::Refusals::by_rules, crate::specs::Trailing::count_step, crate::specs::Trailing::reference_step, message::specs::Forms::Run::test_step))]
