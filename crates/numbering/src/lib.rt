@@ -5,7 +5,7 @@ ghost use Rattle.std.specs.Prelude.{◌≡◌, [], ◌∷◌, None};
 ghost use Rattle.std.specs.Option.{option_map};
 ghost use Rattle.message.specs.Segs.{seg_at};
 ghost use Rattle.message.specs.Rules.{rule20, rule21, rule29};
-ghost use Rattle.rule.specs.Runs.{none_passed, one_passed};
+ghost use Rattle.rule.specs.Laws.RunLaws.{none_passed, one_passed};
 ghost use Rattle.numbering.specs.Steps.{line_step, lines_after, sequence_step, sequences_after, control_step, control_after};
 
 use faults::Fault;
