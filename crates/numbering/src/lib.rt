@@ -6,7 +6,7 @@ ghost use Rattle.std.specs.Option.{option_map};
 ghost use Rattle.message.specs.Segs.{seg_at};
 ghost use Rattle.message.specs.Rules.{rule20, rule21, rule29};
 ghost use Rattle.rule.specs.Laws.RunLaws.{none_passed, one_passed};
-ghost use Rattle.numbering.specs.Steps.{line_step, lines_after, sequence_step, sequences_after, control_step, control_after};
+ghost use Rattle.numbering.specs.Steps.{line_start, line_step, lines_after, sequence_start, sequence_step, sequences_after, control_start, control_step, control_after};
 
 use faults::Fault;
 use numbers::Number;
@@ -34,7 +34,7 @@ pub struct LineNumbers<const LIN: usize> {
 impl<const LIN: usize> Rule for LineNumbers<LIN> {
     ghost rules = { λ k ss. (20, rule20 LIN ss) ∷ [] };
 
-    ghost first = { record { line = record { 0 = 0 }; first20 = None } };
+    ghost first = { line_start LIN };
 
     ghost Step = { λ v m k p a b. (b.line.0, b.first20) ≡ line_step LIN (a.line.0, a.first20) (seg_at v m p.nth p.row p.at) };
 
@@ -75,7 +75,7 @@ pub struct SequenceNumbers {
 impl Rule for SequenceNumbers {
     ghost rules = { λ k ss. (21, rule21 ss) ∷ [] };
 
-    ghost first = { record { sequence = None; first21 = None } };
+    ghost first = { sequence_start };
 
     ghost Step = { λ v m k p a b. (option_map (λ n. n.0) b.sequence, b.first21) ≡ sequence_step (option_map (λ n. n.0) a.sequence, a.first21) (seg_at v m p.nth p.row p.at) };
 
@@ -120,7 +120,7 @@ pub struct Control {
 impl Rule for Control {
     ghost rules = { λ k ss. (29, rule29 k.orders ss) ∷ [] };
 
-    ghost first = { record { first29 = None } };
+    ghost first = { control_start };
 
     ghost Step = { λ v m k p a b. b.first29 ≡ control_step k.orders a.first29 (seg_at v m p.nth p.row p.at) };
 

@@ -6,7 +6,7 @@ ghost use Rattle.values.specs.Numbers.{value_in};
 ghost use Rattle.message.specs.Segs.{seg_at};
 ghost use Rattle.message.specs.Rules.{rule17, rule18};
 ghost use Rattle.rule.specs.Laws.RunLaws.{none_passed, one_passed};
-ghost use Rattle.trailer.specs.Trailing.{count_step, count_after, reference_step, reference_after};
+ghost use Rattle.trailer.specs.Trailing.{trailer_start, count_step, count_after, reference_step, reference_after};
 
 use faults::Fault;
 use numbers::Number;
@@ -24,7 +24,7 @@ pub struct Trailer<const UNT: usize> {
 impl<const UNT: usize> Rule for Trailer<UNT> {
     ghost rules = { λ k ss. (17, rule17 UNT k.segments ss) ∷ (18, rule18 UNT ss) ∷ [] };
 
-    ghost first = { record { first17 = None; first18 = None } };
+    ghost first = { trailer_start UNT };
 
     ghost Step = { λ v m k p a b. (b.first17 ≡ count_step UNT k.segments a.first17 (seg_at v m p.nth p.row p.at)) × (b.first18 ≡ reference_step UNT (value_in v 0 m 1 0) a.first18 (seg_at v m p.nth p.row p.at)) };
 
