@@ -8,7 +8,7 @@ ghost use Rattle.message.specs.Forms.Run.{run};
 ghost use Rattle.faults.specs.Firsts.{told_of};
 ghost use Rattle.message.specs.Faults.{tell_all, least_of};
 ghost use Rattle.message.specs.Placed.{placed_on};
-ghost use Rattle.rule.specs.Runs.{none_passed, one_passed};
+ghost use Rattle.rule.specs.Laws.RunLaws.{none_passed, one_passed};
 ghost use Rattle.advice.specs.Forms.Steps.{dates_start, date_by, date_step, first_date, references_start, reference_step, line_comes, first_reference};
 
 use faults::Fault;

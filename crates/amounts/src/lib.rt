@@ -8,7 +8,7 @@ ghost use Rattle.values.specs.Text.{same_list, says};
 ghost use Rattle.message.specs.Segs.{seg_at};
 ghost use Rattle.message.specs.Rules.{is_of, worth, capitals, first_holds, second_holds, bases_hold, cux_holds, rule22, rule23, rule24, rule25, rule26};
 ghost use Rattle.message.specs.Forms.Run.{run};
-ghost use Rattle.rule.specs.Runs.{none_passed, one_passed};
+ghost use Rattle.rule.specs.Laws.RunLaws.{none_passed, one_passed};
 ghost use Rattle.amounts.specs.Forms.Steps.{sums_of, sums_idle, sums_start, sums_step, amounts_close, own_of, own_at, base_by, bases_by, held_by, order_ended, with_form, exchanged, paid};
 
 use faults::Fault;

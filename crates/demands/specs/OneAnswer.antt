@@ -5,6 +5,7 @@ use Rattle.numbers.specs.declared.Number.{Number}
 use Rattle.numbers.specs.Table.{table_number}
 use Rattle.numbers.specs.Table.{number_told}
 use Rattle.faults.specs.Firsts.{told_of}
+use Rattle.std.specs.Option.{option_map}
 use Rattle.service.specs.declared.Service.{Service}
 use Rattle.service.specs.Service.{is_mark, characters_of, fitting}
 use Rattle.segments.specs.Classes.{class_of, is_break}
@@ -45,14 +46,19 @@ use Rattle.message.specs.Faults.{tell_all, least_of}
 use Rattle.rule.specs.declared.placed.Places.{Places}
 use Rattle.rule.specs.Left.{places_left}
 use Rattle.rule.specs.Refusals.{by_rules}
-use Rattle.numbering.specs.Steps.{line_step, lines_after, sequence_step, sequences_after, control_step, control_after}
+use Rattle.numbering.specs.declared.LineNumbers.{LineNumbers}
+use Rattle.numbering.specs.declared.SequenceNumber.{SequenceNumber}
+use Rattle.numbering.specs.declared.SequenceNumbers.{SequenceNumbers}
+use Rattle.numbering.specs.declared.Control.{Control}
+use Rattle.numbering.specs.Steps.{line_start, line_step, lines_after, sequence_start, sequence_step, sequences_after, control_start, control_step, control_after}
 use Rattle.amounts.specs.declared.Amounts.{Amounts}
 use Rattle.amounts.specs.Forms.Steps.{sums_start, sums_of, sums_step, amounts_close, own_of, own_at}
 use Rattle.parties.specs.declared.Parties.{Parties}
 use Rattle.parties.specs.Forms.Steps.{parties_start, parties_step, parties_close}
 use Rattle.details.specs.declared.Details.{Details}
 use Rattle.details.specs.Forms.Steps.{details_start, details_step, details_close}
-use Rattle.trailer.specs.Trailing.{count_step, count_after, reference_step, reference_after}
+use Rattle.trailer.specs.declared.Trailer.{Trailer}
+use Rattle.trailer.specs.Trailing.{trailer_start, count_step, count_after, reference_step, reference_after}
 use Rattle.listing.specs.Listing.{lists_after}
 use Rattle.table.specs.declared.Row.{Row}
 use Rattle.table.specs.Entries.{tag_in, most_in, required}
@@ -171,7 +177,17 @@ pub record OneAnswer : Type 0 where
   pub rule_places : (text : Text) (t : Table) → OnlyUpTo places_left (λ (r : Places). places_left r ≡ placed_on t text.service text.bytes.now)
   pub rule_refusal : (rules : List (ℕ × List ℕ)) (other : Option Fault) → Only (λ (f : Option Fault). told_of f ≡ by_rules rules (told_of other))
   pub rule_judge : (rules : List Seg → List (ℕ × List ℕ)) (m : List ℕ) (v : Service) (t : Table) → Only (λ (f : Option Fault). told_of f ≡ by_rules (rules (placed_on t v m)) None)
-  -- numbering: the number and the place that each of its rules keeps, before the first segment and after one more
+  -- numbering: each of its rules before the first segment and after one more
+  pub numbering_line_start_lem : (LIN : ℕ) → OnlyIs (line_start LIN)
+  pub numbering_line_step_lem : (LIN : ℕ) (st : LineNumbers LIN) (m : List ℕ) (v : Service) (at nth row : ℕ)
+      → Only (λ (r : LineNumbers LIN). (r.line.0, r.first20) ≡ line_step LIN (st.line.0, st.first20) (seg_at v m nth row at))
+  pub numbering_sequence_start_lem : OnlyIs sequence_start
+  pub numbering_sequence_step_lem : (st : SequenceNumbers) (m : List ℕ) (v : Service) (at nth row : ℕ)
+      → Only (λ (r : SequenceNumbers). (option_map (λ (n : SequenceNumber). n.0) r.sequence, r.first21) ≡ sequence_step (option_map (λ (n : SequenceNumber). n.0) st.sequence, st.first21) (seg_at v m nth row at))
+  pub numbering_control_start_lem : OnlyIs control_start
+  pub numbering_control_step_lem : (st : Control) (m : List ℕ) (v : Service) (at nth row orders : ℕ)
+      → Only (λ (r : Control). r.first29 ≡ control_step orders st.first29 (seg_at v m nth row at))
+  -- the number and the place that each of these keeps
   pub numbering_line_start : (LIN : ℕ) → OnlyIs (lines_after LIN [])
   pub numbering_sequence_start : OnlyIs (sequences_after [])
   pub numbering_control_start : (orders : ℕ) → OnlyIs (control_after orders [])
@@ -192,7 +208,11 @@ pub record OneAnswer : Type 0 where
   pub details_start_lem : OnlyIs details_start
   pub details_step_lem : (st : Details) (m : List ℕ) (v : Service) (at nth row : ℕ) → OnlyIs (details_step st (seg_at v m nth row at))
   pub details_close_lem : (st : Details) → OnlyIs (details_close st)
-  -- trailer: the place that each of its rules keeps
+  -- trailer: before the first segment and after one more
+  pub trailer_start_lem : (UNT : ℕ) → OnlyIs (trailer_start UNT)
+  pub trailer_step_lem : (UNT : ℕ) (st : Trailer UNT) (m : List ℕ) (v : Service) (at nth row segments : ℕ)
+      → Only (λ (r : Trailer UNT). (r.first17 ≡ count_step UNT segments st.first17 (seg_at v m nth row at)) × (r.first18 ≡ reference_step UNT (value_in v 0 m 1 0) st.first18 (seg_at v m nth row at)))
+  -- the place that it keeps by each of its rules
   pub trailer_count_start : (UNT segments : ℕ) → OnlyIs (count_after UNT segments [])
   pub trailer_reference_start : (UNT : ℕ) (m : List ℕ) (v : Service) → OnlyIs (reference_after UNT (value_in v 0 m 1 0) [])
   pub trailer_count_step : (UNT : ℕ) (first : Option ℕ) (m : List ℕ) (v : Service) (at nth row segments : ℕ) → OnlyIs (count_step UNT segments first (seg_at v m nth row at))

@@ -7,7 +7,7 @@ ghost use Rattle.faults.specs.Firsts.{lesser};
 ghost use Rattle.message.specs.Segs.{seg_at};
 ghost use Rattle.message.specs.Rules.{rule28};
 ghost use Rattle.message.specs.Forms.Run.{run};
-ghost use Rattle.rule.specs.Runs.{none_passed, one_passed};
+ghost use Rattle.rule.specs.Laws.RunLaws.{none_passed, one_passed};
 ghost use Rattle.details.specs.Forms.Steps.{common_comes, group_holds, group_comes, order_ended, group_ended, details_start, details_step, details_close};
 
 use faults::Fault;

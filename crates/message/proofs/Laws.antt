@@ -2,7 +2,6 @@ pub mod CountLaws
 pub mod FaultLaws
 pub mod FirstLaws
 pub mod LevelLaws
-pub mod LoopLaws
 pub mod PlacedLaws
 pub mod RowLaws
 pub mod ValueLaws

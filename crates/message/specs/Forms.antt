@@ -1,2 +1,3 @@
 pub mod Counts
+pub mod Left
 pub mod Run

@@ -7,8 +7,14 @@ use Rattle.message.specs.Segs.{Seg, LIN, SEQ, CNT, on_row, is}
 use Rattle.message.specs.Rules.{writes}
 use Rattle.message.specs.Forms.Run.{run, test_step, Level, level_step}
 use Rattle.message.specs.Forms.Counts.{most}
+use Rattle.numbering.specs.declared.LineNumbers.{LineNumbers}
+use Rattle.numbering.specs.declared.SequenceNumbers.{SequenceNumbers}
+use Rattle.numbering.specs.declared.Control.{Control}
 
 -- 20: the last LIN's number, and the first place
+abbrev pub line_start : (lin : ℕ) → LineNumbers lin
+line_start lin = record { line = record { 0 = 0 }; first20 = None }
+
 unfoldable pub line_step : ℕ → (ℕ × Option ℕ) → Seg → (ℕ × Option ℕ)
 line_step lin st s =
     if (on_row lin s) (min (st.0 + 1) most, lesser st.1 (place_unless (writes (s.value 1 0) (min (st.0 + 1) most)) s.nth)) st
@@ -17,6 +23,9 @@ abbrev pub lines_after : ℕ → List Seg → ℕ × Option ℕ
 lines_after lin ss = run (line_step lin) (0, None) ss
 
 -- 21: the last SEQ's number under the last LIN, if a LIN came
+abbrev pub sequence_start : SequenceNumbers
+sequence_start = record { sequence = None; first21 = None }
+
 unfoldable pub count_seq : Option ℕ → Seg → Option ℕ
 count_seq None s = None
 count_seq (Some n) s = Some (if (is SEQ s) (min (n + 1) most) n)
@@ -35,6 +44,9 @@ abbrev pub sequences_after : List Seg → Option ℕ × Option ℕ
 sequences_after ss = run sequence_step (None, None) ss
 
 -- 29, in a message with n LIN segments
+abbrev pub control_start : Control
+control_start = record { first29 = None }
+
 unfoldable pub control_step : ℕ → Option ℕ → Seg → Option ℕ
 control_step n f s = test_step (λ s. is CNT s && says (s.value 1 0) "2") (λ s. writes (s.value 1 1) n) f s
 

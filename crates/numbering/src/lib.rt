@@ -5,8 +5,8 @@ ghost use Rattle.std.specs.Prelude.{◌≡◌, [], ◌∷◌, None};
 ghost use Rattle.std.specs.Option.{option_map};
 ghost use Rattle.message.specs.Segs.{seg_at};
 ghost use Rattle.message.specs.Rules.{rule20, rule21, rule29};
-ghost use Rattle.rule.specs.Runs.{none_passed, one_passed};
-ghost use Rattle.numbering.specs.Steps.{line_step, lines_after, sequence_step, sequences_after, control_step, control_after};
+ghost use Rattle.rule.specs.Laws.RunLaws.{none_passed, one_passed};
+ghost use Rattle.numbering.specs.Steps.{line_start, line_step, lines_after, sequence_start, sequence_step, sequences_after, control_start, control_step, control_after};
 
 use faults::Fault;
 use numbers::Number;
@@ -17,24 +17,24 @@ use values::codes;
 // The number of the LIN last seen. No number that a value writes reaches the end of the range, so a count may stop there. LIN and SEQ are
 // counted apart, each in a struct of its own, so that neither count can be taken for the other.
 #[derive(Clone, Copy, Debug, PartialEq, Eq)]
-struct LineNumber(u64);
+pub struct LineNumber(pub u64);
 
 // The number of the SEQ last seen under its LIN.
 #[derive(Clone, Copy, Debug, PartialEq, Eq)]
-struct SequenceNumber(u64);
+pub struct SequenceNumber(pub u64);
 
 // 20: the last LIN, which has a row of its own on each chart, and the first at fault.
 #[derive(Clone, Copy, Debug, PartialEq, Eq)]
 pub struct LineNumbers<const LIN: usize> {
-    line: LineNumber,
-    first20: Option<usize>,
+    pub line: LineNumber,
+    pub first20: Option<usize>,
 }
 
 #[tactic(auto, using(crate::proofs::Agree::agree20), unfolding(rule::specs::Refusals::by_rules, crate::specs::Steps::line_step))]
 impl<const LIN: usize> Rule for LineNumbers<LIN> {
     ghost rules = { λ k ss. (20, rule20 LIN ss) ∷ [] };
 
-    ghost first = { record { line = record { 0 = 0 }; first20 = None } };
+    ghost first = { line_start LIN };
 
     ghost Step = { λ v m k p a b. (b.line.0, b.first20) ≡ line_step LIN (a.line.0, a.first20) (seg_at v m p.nth p.row p.at) };
 
@@ -67,15 +67,15 @@ impl<const LIN: usize> Rule for LineNumbers<LIN> {
 // 21: the last SEQ under the last LIN, if a LIN was seen, and the first at fault.
 #[derive(Clone, Copy, Debug, PartialEq, Eq)]
 pub struct SequenceNumbers {
-    sequence: Option<SequenceNumber>,
-    first21: Option<usize>,
+    pub sequence: Option<SequenceNumber>,
+    pub first21: Option<usize>,
 }
 
 #[tactic(auto, using(crate::proofs::Agree::agree21, faults::specs::Laws::FirstsLaws::lesser_last), unfolding(rule::specs::Refusals::by_rules, crate::specs::Steps::sequence_step, message::specs::Forms::Run::level_step, crate::specs::Steps::count_seq, crate::specs::Steps::tell_seq))]
 impl Rule for SequenceNumbers {
     ghost rules = { λ k ss. (21, rule21 ss) ∷ [] };
 
-    ghost first = { record { sequence = None; first21 = None } };
+    ghost first = { sequence_start };
 
     ghost Step = { λ v m k p a b. (option_map (λ n. n.0) b.sequence, b.first21) ≡ sequence_step (option_map (λ n. n.0) a.sequence, a.first21) (seg_at v m p.nth p.row p.at) };
 
@@ -113,14 +113,14 @@ impl Rule for SequenceNumbers {
 // 29: the first CNT at fault.
 #[derive(Clone, Copy, Debug, PartialEq, Eq)]
 pub struct Control {
-    first29: Option<usize>,
+    pub first29: Option<usize>,
 }
 
 #[tactic(auto, using(crate::proofs::Agree::agree29, crate::proofs::Ways::two_code), unfolding(rule::specs::Refusals::by_rules, crate::specs::Steps::control_step, message::specs::Forms::Run::test_step))]
 impl Rule for Control {
     ghost rules = { λ k ss. (29, rule29 k.orders ss) ∷ [] };
 
-    ghost first = { record { first29 = None } };
+    ghost first = { control_start };
 
     ghost Step = { λ v m k p a b. b.first29 ≡ control_step k.orders a.first29 (seg_at v m p.nth p.row p.at) };
 

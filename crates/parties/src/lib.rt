@@ -9,7 +9,7 @@ ghost use Rattle.message.specs.Segs.{seg_at};
 ghost use Rattle.message.specs.Rules.{order_holds, payment_holds, rule27};
 ghost use Rattle.message.specs.Forms.Run.{run, place_if};
 ghost use Rattle.message.specs.Forms.Counts.{more_if};
-ghost use Rattle.rule.specs.Runs.{none_passed, one_passed};
+ghost use Rattle.rule.specs.Laws.RunLaws.{none_passed, one_passed};
 ghost use Rattle.parties.specs.Forms.Steps.{name_in, level_of, with_account, with_parties, payment_comes, parties_start, parties_step, parties_close, with_payment, ended};
 
 use faults::Fault;

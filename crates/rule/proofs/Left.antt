@@ -13,7 +13,7 @@ use Rattle.chart.specs.Table.{Table}
 use Rattle.chart.proofs.Stream.{left_rows, left_none}
 use Rattle.message.specs.Segs.{seg_at, segs_from}
 use Rattle.message.specs.Placed.{placed_on}
-use Rattle.message.proofs.Laws.LoopLaws.{segs_after}
+use Rattle.message.specs.Forms.Left.{segs_after}
 
 module _ (t : Table) (v : Service) (m : List ℕ) (c : Cursor) where
   pub left_first : CursorIs v m 0 c → segs_after t v m 1 0 c.at ≡ placed_on t v m

@@ -2,7 +2,7 @@
 use Rattle.std.specs.Prelude.{suc, ◌≡◌, List, [], ◌∷◌, Option}
 use Rattle.std.specs.Option.{MatchOption}
 use Rattle.message.specs.Segs.{Seg, seg_at}
-use Rattle.message.proofs.Laws.LoopLaws.{segs_after}
+use Rattle.message.specs.Forms.Left.{segs_after}
 use Rattle.rule.specs.declared.placed.Place.{Place}
 use Rattle.rule.specs.declared.placed.Places.{Places}
 

@@ -1,3 +1,3 @@
 pub mod Left
 pub mod Refusals
-pub mod Runs
+pub mod Laws

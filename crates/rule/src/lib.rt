@@ -75,7 +75,7 @@ impl<A: Rule, B: Rule> Rule for (A, B) {
         self.1.step(text, counts, place);
     }
 
-    #[tactic(auto, using(crate::specs::Refusals::both_by))]
+    #[tactic(auto, using(crate::specs::Laws::RefusalLaws::both_by))]
     fn refusal(&self, text: Text<'_>, other: Option<Fault>) -> Option<Fault> {
         self.0.refusal(text, self.1.refusal(text, other))
     }

@@ -4,6 +4,10 @@ use Rattle.values.specs.Text.{same_list}
 use Rattle.message.specs.Segs.{Seg, on_row}
 use Rattle.message.specs.Rules.{writes}
 use Rattle.message.specs.Forms.Run.{run, test_step}
+use Rattle.trailer.specs.declared.Trailer.{Trailer}
+
+abbrev pub trailer_start : (unt : ℕ) → Trailer unt
+trailer_start unt = record { first17 = None; first18 = None }
 
 -- 17, in a message of n segments
 unfoldable pub count_step : ℕ → ℕ → Option ℕ → Seg → Option ℕ

@@ -5,8 +5,8 @@ ghost use Rattle.std.specs.Prelude.{◌≡◌, [], ◌∷◌, None};
 ghost use Rattle.values.specs.Numbers.{value_in};
 ghost use Rattle.message.specs.Segs.{seg_at};
 ghost use Rattle.message.specs.Rules.{rule17, rule18};
-ghost use Rattle.rule.specs.Runs.{none_passed, one_passed};
-ghost use Rattle.trailer.specs.Trailing.{count_step, count_after, reference_step, reference_after};
+ghost use Rattle.rule.specs.Laws.RunLaws.{none_passed, one_passed};
+ghost use Rattle.trailer.specs.Trailing.{trailer_start, count_step, count_after, reference_step, reference_after};
 
 use faults::Fault;
 use numbers::Number;
@@ -16,15 +16,15 @@ use segments::Text;
 // The first UNT, which has a row of its own on each chart, that is at fault under 17, and under 18.
 #[derive(Clone, Copy, Debug, PartialEq, Eq)]
 pub struct Trailer<const UNT: usize> {
-    first17: Option<usize>,
-    first18: Option<usize>,
+    pub first17: Option<usize>,
+    pub first18: Option<usize>,
 }
 
 #[tactic(auto, using(crate::proofs::Agree::agree17, crate::proofs::Agree::agree18, message::proofs::Laws::PlacedLaws::reference_first), unfolding(rule::specs::Refusals::by_rules, crate::specs::Trailing::count_step, crate::specs::Trailing::reference_step, message::specs::Forms::Run::test_step))]
 impl<const UNT: usize> Rule for Trailer<UNT> {
     ghost rules = { λ k ss. (17, rule17 UNT k.segments ss) ∷ (18, rule18 UNT ss) ∷ [] };
 
-    ghost first = { record { first17 = None; first18 = None } };
+    ghost first = { trailer_start UNT };
 
     ghost Step = { λ v m k p a b. (b.first17 ≡ count_step UNT k.segments a.first17 (seg_at v m p.nth p.row p.at)) × (b.first18 ≡ reference_step UNT (value_in v 0 m 1 0) a.first18 (seg_at v m p.nth p.row p.at)) };
 

@@ -1,5 +1,6 @@
 -- No public function has a second answer. Assumes nothing.
-use Rattle.std.specs.Prelude.{ℕ, ◌≡◌, List}
+use Rattle.std.specs.Prelude.{ℕ, ◌≡◌, refl, List, Option, None, Some}
+use Rattle.std.specs.Option.{option_map}
 use Rattle.std.proofs.Common.{ap₂}
 use Rattle.service.specs.declared.Service.{Service}
 use Rattle.service.specs.Laws.Unique.{only}
@@ -14,6 +15,11 @@ use Rattle.chart.specs.declared.Cursor.{Cursor}
 use Rattle.chart.specs.Forms.Cursor.{CursorIs}
 use Rattle.kinds.specs.Kinds.{table_of}
 use Rattle.chart.proofs.Answers.{one_answer}
+use Rattle.numbering.specs.declared.LineNumbers.{LineNumbers}
+use Rattle.numbering.specs.declared.SequenceNumber.{SequenceNumber}
+use Rattle.numbering.specs.declared.SequenceNumbers.{SequenceNumbers}
+use Rattle.numbering.specs.declared.Control.{Control}
+use Rattle.trailer.specs.declared.Trailer.{Trailer}
 use Rattle.amounts.specs.Laws.StepLaws.{one_sums}
 use Rattle.report.specs.Laws.ReportedLaws.{one_report}
 use Rattle.report.specs.Laws.JudgeLaws.{one_judged}
@@ -36,6 +42,29 @@ one_reader t at x y p q =
     let a = only p.1 q.1 in
     let b = only p.2 q.2 in
     λ i. record { text = a i; at = b i }
+
+-- a rule, by the number and the places that it keeps
+one_lines : (LIN : ℕ) (x y : LineNumbers LIN) → ◌≡◌ {A = ℕ × Option ℕ} (x.line.0, x.first20) (y.line.0, y.first20) → x ≡ y
+one_lines LIN x y p = λ i. record { line = record { 0 = (p i).0 }; first20 = (p i).1 }
+
+one_number : (x y : Option SequenceNumber) → option_map (λ (n : SequenceNumber). n.0) x ≡ option_map (λ (n : SequenceNumber). n.0) y → x ≡ y
+one_number None None p = refl
+one_number None (Some y) p = cc
+one_number (Some x) None p = cc
+one_number (Some x) (Some y) p =
+    let a : x.0 ≡ y.0 = cc in
+    λ i. Some (record { 0 = a i })
+
+one_sequences : (x y : SequenceNumbers) → ◌≡◌ {A = Option ℕ × Option ℕ} (option_map (λ (n : SequenceNumber). n.0) x.sequence, x.first21) (option_map (λ (n : SequenceNumber). n.0) y.sequence, y.first21) → x ≡ y
+one_sequences x y p =
+    let a = one_number x.sequence y.sequence (λ i. (p i).0) in
+    λ i. record { sequence = a i; first21 = (p i).1 }
+
+one_control : (x y : Control) → x.first29 ≡ y.first29 → x ≡ y
+one_control x y p = λ i. record { first29 = p i }
+
+one_trailer : (UNT : ℕ) (x y : Trailer UNT) → x.first17 ≡ y.first17 → x.first18 ≡ y.first18 → x ≡ y
+one_trailer UNT x y p q = λ i. record { first17 = p i; first18 = q i }
 
 one_line : (l : List ℕ) → OnlyLine l
 one_line l o o1 o2 x y p q = ap₂ filled (only p.answer q.answer) (only p.room q.room)
@@ -94,6 +123,12 @@ one = record {
   rule_places = λ text t x y p q. only p q;
   rule_refusal = λ rules other x y p q. fault_one x y (only p q);
   rule_judge = λ rules m v t x y p q. fault_one x y (only p q);
+  numbering_line_start_lem = λ l x y p q. only p q;
+  numbering_line_step_lem = λ l st m v at nth row x y p q. one_lines l x y (only p q);
+  numbering_sequence_start_lem = λ x y p q. only p q;
+  numbering_sequence_step_lem = λ st m v at nth row x y p q. one_sequences x y (only p q);
+  numbering_control_start_lem = λ x y p q. only p q;
+  numbering_control_step_lem = λ st m v at nth row n x y p q. one_control x y (only p q);
   numbering_line_start = λ l x y p q. only p q;
   numbering_sequence_start = λ x y p q. only p q;
   numbering_control_start = λ n x y p q. only p q;
@@ -110,6 +145,8 @@ one = record {
   details_start_lem = λ x y p q. only p q;
   details_step_lem = λ st m v at nth row x y p q. only p q;
   details_close_lem = λ st x y p q. only p q;
+  trailer_start_lem = λ u x y p q. only p q;
+  trailer_step_lem = λ u st m v at nth row n x y p q. one_trailer u x y (only p.0 q.0) (only p.1 q.1);
   trailer_count_start = λ u n x y p q. only p q;
   trailer_reference_start = λ u m v x y p q. only p q;
   trailer_count_step = λ u f m v at nth row n x y p q. only p q;

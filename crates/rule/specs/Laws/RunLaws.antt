@@ -1,4 +1,4 @@
--- A state that is the run of a step over the segments: before the first, and one further.
+-- A state that is the run of a step over the segments: before the first, and one further. Assumes nothing.
 use Rattle.std.specs.Prelude.{◌≡◌, refl, List, [], ◌∷◌, ◌++◌}
 use Rattle.message.specs.Segs.{Seg}
 use Rattle.message.specs.Forms.Run.{run}

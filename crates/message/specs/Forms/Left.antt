@@ -1,4 +1,4 @@
--- The segments of a message that are left at a place, each with the row that follows from the one before it. Assumes nothing.
+-- The segments of a message that are left at a place, each with the row that follows from the one before it.
 use Prim.Native.Nat.{ℕ}
 use Rattle.std.specs.Prelude.{List}
 use Rattle.service.specs.declared.Service.{Service}
