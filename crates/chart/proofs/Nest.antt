@@ -94,9 +94,12 @@ at_each (suc n) P h r lt = go (λ lt2. at_each n P (and_right (P n) _ h) r lt2) 
     go k true e = subst (λ (x : ℕ). T (P x)) (sym (eqb-true r n e)) (and_left (P n) _ h)
     go k false e = k (omega (arith, eqb-false r n e))
 
--- no row's tag is 0
+-- no row's tag is 0, nor 2
 pub tag_some : (t : Table) (r : ℕ) → tag_of t r ≡ 0 → ⊥
 tag_some t r e = omega arith
+
+pub tag_runs : (t : Table) (r : ℕ) → tag_of t r ≡ 2 → ⊥
+tag_runs t r e = omega arith
 
 -- THE MESSAGE'S OWN ROW
 pub record Own (t : Table) : Type 0 where
@@ -145,6 +148,12 @@ group_first t s r q lr lq e =
 
 -- ---- the first row of an occurrence
 module _ (t : Table) (r : ℕ) where
+  pub group_by : (e : ℕ) → e ≡ end_of t r → ltb (r + 1) e ≡ ltb (r + 1) (end_of t r)
+  group_by e q = ap (ltb (r + 1)) q
+
   pub first_segment : ltb (r + 1) (end_of t r) ≡ false → r ≡ first_of t r
   unfolding first_of
   first_segment e = sym (pick_false _ _ e)
+
+  pub first_other : (b : Bool) → b ≡ ltb (r + 1) (end_of t r) → b ≡ false → r ≡ first_of t r
+  first_other b e h = first_segment (sym e ∙ h)

@@ -1,6 +1,8 @@
 -- "prove that no second answer satisfies it": every public function of every crate, what its contract says of the answer, and that two answers that meet it are one,
 -- the final content of lent lists included. Where the answer is one up to something alone, the field says what is one; docs/DECISIONS.md says why.
 use Rattle.std.specs.Prelude.{ℕ, ◌%◌, ◌≡◌, List, [], Bool, false, not, ◌&&◌, ◌||◌, length, drop, set, Option, None}
+use Rattle.std.specs.Option.{option_map}
+use Rattle.std.specs.Iterator.{YieldsFirstBy}
 use Rattle.numbers.specs.declared.Number.{Number}
 use Rattle.numbers.specs.Table.{table_number}
 use Rattle.numbers.specs.Table.{number_told}
@@ -14,13 +16,17 @@ use Rattle.segments.specs.Forms.Segments.{segment_at}
 use Rattle.segments.specs.declared.Piece.{Piece}
 use Rattle.segments.specs.declared.Text.{Text}
 use Rattle.segments.specs.declared.Segments.{Segments}
-use Rattle.segments.specs.Left.{segments_left}
+use Rattle.segments.specs.Left.{segments_left, Steps as PieceNext}
 use Rattle.segments.specs.SegmentList.{start_of, segments_from, start_at}
-use Rattle.parts.specs.Parts.{lex, value_of, elements, value_at}
+use Rattle.parts.specs.Parts.{Tok, lex, value_of, elements, value_at}
 use Rattle.parts.specs.Forms.Lex.{token_at}
+use Rattle.parts.specs.declared.Part.{Part}
+use Rattle.parts.specs.declared.Tokens.{Tokens}
+use Rattle.parts.specs.Tokens.{tok, tokens_left}
 use Rattle.values.specs.Numbers.{value_from, value_in}
 use Rattle.values.specs.Text.{same_list}
 use Rattle.values.specs.Forms.Values.{code_of, amount_of, is_capitals, number_of, is_number}
+use Rattle.interchange.specs.declared.Refusal.{Refusal}
 use Rattle.interchange.specs.Messages.{found_from}
 use Rattle.interchange.specs.Envelope.{is_reference, refusal}
 use Rattle.interchange.specs.Forms.Answers.{read_by}
@@ -43,8 +49,9 @@ use Rattle.message.specs.Placed.{placed_on}
 use Rattle.message.specs.Rules.{worth, paymul_of}
 use Rattle.message.specs.Advices.{debmul_of}
 use Rattle.message.specs.Faults.{tell_all, least_of}
+use Rattle.rule.specs.declared.placed.Place.{Place}
 use Rattle.rule.specs.declared.placed.Places.{Places}
-use Rattle.rule.specs.Left.{places_left}
+use Rattle.rule.specs.Left.{places_left, Steps as PlaceNext}
 use Rattle.rule.specs.Refusals.{by_rules}
 use Rattle.numbering.specs.declared.LineNumbers.{LineNumbers}
 use Rattle.numbering.specs.declared.SequenceNumber.{SequenceNumber}
@@ -73,7 +80,7 @@ use Rattle.walk.specs.Walks.{Walks, Judges}
 use Rattle.rewrite.specs.Answers.{Rewriting}
 use Rattle.rewrite.specs.Plain.{rewriting_of, room_after}
 use Rattle.twineherald.specs.declared.RewritingNumbers.{RewritingNumbers}
-use Rattle.twineherald.specs.Numbers.{OpenedWith, ClosedWith, Stepped, Checked, Rewritten}
+use Rattle.twineherald.specs.Numbers.{refused_of, OpenedWith, ClosedWith, Stepped, Checked, Rewritten}
 use Rattle.twineherald.specs.Several.{SteppedEach}
 
 -- a contract that no two answers meet
@@ -91,6 +98,22 @@ OnlyWith {A} f = (x x1 x2 : Lists) (y z : A) → f x x1 y → f x x2 z → left 
 -- of a contract from which only what g makes of the answer follows
 abbrev pub OnlyUpTo : {A B : Type 0} → (A → B) → (A → Type 0) → Type 0
 OnlyUpTo {A} g f = (x y : A) → f x → f y → g x ≡ g y
+
+-- what a step of a reader gives, and the reader after it by what it has left, and by its text: of the segments, the tokens and the placed segments
+abbrev pub piece_read : Option Piece × Segments → Option Piece × List Piece × Text
+piece_read x = (x.0, segments_left x.1, x.1.text)
+
+abbrev pub token_read : Option Part × Tokens → Option Part × List Tok
+token_read x = (x.0, tokens_left x.1)
+
+abbrev pub places_held : Places → List Seg × Text
+places_held r = (places_left r, r.text)
+
+abbrev pub placed_seg : Text → Place → Seg
+placed_seg t p = seg_at t.service t.bytes.now p.nth p.row p.at
+
+abbrev pub place_read : Text → Option Place × Places → Option Seg × List Seg × Text
+place_read t x = (option_map (placed_seg t) x.0, places_left x.1, x.1.text)
 
 -- an answer, and the room after it
 pub record Filled (A B : Type 0) : Type 0 where
@@ -113,15 +136,17 @@ pub record OneAnswer : Type 0 where
   pub service_is_mark : (b : ℕ) → OnlyIs (is_mark b)
   pub service_characters_of : (s : List ℕ) → OnlyIs (characters_of s)
   pub service_fits : (v : Service) → OnlyIs (fitting v)
-  -- segments
+  -- segments: a reader's step leaves it anywhere where it has the same left
   pub segments_classify : (v : Service) (b : ℕ) → OnlyIs (class_of v b)
   pub segments_is_break : (b : ℕ) → OnlyIs (is_break b)
   pub segments_skip_breaks : (s : List ℕ) (at : ℕ) → OnlyIs (past_breaks at (drop at s))
   pub segments_start : (p : Piece) → OnlyIs (start_of p)
   pub segments_segments : (text : Text) (at : ℕ) → Only (λ (r : Segments). (segments_left r ≡ segments_from text.service text.bytes.now at) × (r.text ≡ text) × (r.at ≡ at))
+  pub segments_next : (r : Segments) → OnlyUpTo piece_read (λ (x : Option Piece × Segments). PieceNext r x.0 x.1)
   pub segments_segment_at : (s : List ℕ) (at : ℕ) (v : Service) → OnlyIs (segment_at v at s)
   -- parts: `component` gives a position, and the value there is one
   pub parts_token_at : (s : List ℕ) (i : ℕ) (v : Service) → OnlyIs (token_at v i (drop i s))
+  pub parts_next : (r : Tokens) → OnlyUpTo token_read (λ (x : Option Part × Tokens). YieldsFirstBy tok tokens_left r x.0 x.1)
   pub parts_component : (s : List ℕ) (at : ℕ) (v : Service) (e c : ℕ) → OnlyUpTo (value_found v s) (λ r. value_found v s r ≡ value_at (elements (lex v false (drop at s))) e c)
   -- values
   pub values_code_at : (s : List ℕ) (at : ℕ) (v : Service) → OnlyIs (code_of (value_from v at s))
@@ -174,7 +199,8 @@ pub record OneAnswer : Type 0 where
   pub tally_segments_before : (m : List ℕ) (v : Service) (at : ℕ) → OnlyIs (passed (length m) at (segments_from v m 0))
   pub tally_segment_start : (m : List ℕ) (v : Service) (before : ℕ) → OnlyIs (start_at v m before)
   -- rule: by whatever rules it judges
-  pub rule_places : (text : Text) (t : Table) → OnlyUpTo places_left (λ (r : Places). places_left r ≡ placed_on t text.service text.bytes.now)
+  pub rule_places : (text : Text) (t : Table) → OnlyUpTo places_held (λ (r : Places). (places_left r ≡ placed_on t text.service text.bytes.now) × (r.text ≡ text))
+  pub rule_next : (r : Places) → OnlyUpTo (place_read r.text) (λ (x : Option Place × Places). PlaceNext r x.0 x.1)
   pub rule_refusal : (rules : List (ℕ × List ℕ)) (other : Option Fault) → Only (λ (f : Option Fault). told_of f ≡ by_rules rules (told_of other))
   pub rule_judge : (rules : List Seg → List (ℕ × List ℕ)) (m : List ℕ) (v : Service) (t : Table) → Only (λ (f : Option Fault). told_of f ≡ by_rules (rules (placed_on t v m)) None)
   -- numbering: each of its rules before the first segment and after one more
@@ -236,6 +262,7 @@ pub record OneAnswer : Type 0 where
   pub lines_end_line : (messages accepted strays closing : ℕ) → OnlyLine (end_line messages accepted strays closing)
   pub lines_open_line : (number : ℕ) → OnlyLine (open_line number)
   -- twineherald
+  pub twineherald_from : (r : Refusal) → OnlyIs (refused_of r)
   pub twineherald_open : (b : List ℕ) → Only (OpenedWith b)
   pub twineherald_walk : (b : List ℕ) (at : ℕ) → OnlyWith (Stepped b at)
   pub twineherald_walk_each : (b ps : List ℕ) (a a1 a2 : List (List ℕ)) (x y : ℕ) → SteppedEach b ps a a1 x → SteppedEach b ps a a2 y → filled x a1 ≡ filled y a2

@@ -81,7 +81,7 @@ closing_with n v s first = Ok (record { fault = n; messages = message_count v s 
 abbrev pub closing_without : Number → Closing
 closing_without n = Err (refusal n)
 
--- how many messages closing tells, and how many strays
+-- how many messages closing tells: 0 where it refuses outright
 abbrev pub messages_told : Closing → ℕ
 messages_told (Ok c) = c.messages
 messages_told (Err f) = 0

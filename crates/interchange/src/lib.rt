@@ -58,7 +58,7 @@ pub enum Kind {
 
 // What is counted up to the end UNZ.
 #[derive(Clone, Copy, Debug, PartialEq, Eq)]
-struct Survey {
+pub struct Survey {
     pub messages: u64,
     pub strays: u64,
     // Where the end UNZ begins.

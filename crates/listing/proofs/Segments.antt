@@ -137,7 +137,7 @@ module _ (t : Table) (v : Service) (m : List ℕ) (n o k j row : ℕ) (ps : List
   by_parts x y z = (λ h. lists (x h) (y h) (z h)) ∙ sym (room t v m n o (lists r₀ s₀ l₀) a b g)
 
   -- as many segments as asked for
-  listing_last : n ≤ k → lists r s l ≡ lists_after t v m n o (lists r₀ s₀ l₀)
+  pub listing_last : n ≤ k → lists r s l ≡ lists_after t v m n o (lists r₀ s₀ l₀)
   listing_last le =
       let u = h.some in
       let all : k ≡ n = omega arith in
@@ -145,7 +145,7 @@ module _ (t : Table) (v : Service) (m : List ℕ) (n o k j row : ℕ) (ps : List
       (totals_last t v m n (n - k) o j row l₀ l g (map start_of ps) h.totals (omega arith))
 
   -- no segment is left
-  listing_end : ps ≡ [] → lists r s l ≡ lists_after t v m n o (lists r₀ s₀ l₀)
+  pub listing_end : ps ≡ [] → lists r s l ≡ lists_after t v m n o (lists r₀ s₀ l₀)
   listing_end e =
       let w = none_of (starts_of v m) k (ap length (h.left ∙ ap (map start_of) e)) in
       let y = many_rows in

@@ -150,6 +150,12 @@ order_ended v m st o =
     amounts_of o st.first22 (lesser st.first23 (comes_by rule23 (option_map (held_of v m) st.order))) (lesser st.first24 (comes_by rule24 (option_map (held_of v m) st.order)))
     (lesser st.first25 (comes_by rule25 (option_map (held_of v m) st.order))) (lesser st.first26 (comes_by rule26 (option_map (held_of v m) st.order)))
 
+-- the order p at hand ended, of which this holds, and another: what does not hold has its place at the order's MOA
+abbrev pub ended_with : Amounts → Order → Holds → Option Order → Amounts
+ended_with st p h o =
+    amounts_of o st.first22 (lesser st.first23 (place_unless h.qualifier p.nth)) (lesser st.first24 (place_unless h.currency p.nth))
+    (lesser st.first25 (place_unless h.exchange p.nth)) (lesser st.first26 (place_unless h.total p.nth))
+
 -- the order at hand ended, and none after it
 abbrev pub amounts_close : Service → List ℕ → Amounts → Amounts
 amounts_close v m st = order_ended v m st None

@@ -9,6 +9,7 @@ use Rattle.values.specs.Forms.Values.{code_from, code_of, amount_of}
 use Rattle.values.specs.Forms.Codes as codes
 use Rattle.values.specs.Text.{same_list, text, says}
 use Rattle.values.specs.Laws.TextLaws.{says_code}
+use Rattle.faults.specs.Firsts.{lesser, place_unless}
 use Rattle.faults.specs.Laws.FirstsLaws.{lesser_last}
 use Rattle.message.specs.Segs.{seg_at}
 use Rattle.message.specs.Rules.{is_of, worth, capitals, first_holds, second_holds, is_base, bases_hold}
@@ -17,7 +18,8 @@ use Rattle.message.specs.Forms.Counts.{some_step}
 use Rattle.message.proofs.Laws.ValueLaws.{empty_code}
 use Rattle.amounts.specs.declared.Order.{Order}
 use Rattle.amounts.specs.declared.Amounts.{Amounts}
-use Rattle.amounts.specs.Forms.Steps.{add_step, held_inner, held_step, first_step, Sums, sums_step, order_of, sums_of, held_of, own_of, own_at, order_ended, with_form, exchanged, paid, base_by, bases_by}
+use Rattle.amounts.specs.declared.Holds.{Holds}
+use Rattle.amounts.specs.Forms.Steps.{add_step, held_inner, held_step, first_step, Sums, sums_step, order_of, amounts_of, sums_of, held_of, own_of, own_at, holds_of, held_by, order_ended, ended_with, amounts_close, with_form, exchanged, paid, base_by, bases_by}
 
 -- ---- and, or: by the first
 so_or : (a b r : Bool) → a || b ≡ r → a ≡ true → a ≡ r
@@ -95,6 +97,34 @@ bases_values a b c = rw (base_values a, base_values b, empty_code a, empty_code 
 pub rates_by : (a b c : List ℕ) (x y z : ℕ) → x ≡ code_of a → y ≡ code_of b → z ≡ code_of c → (r : Bool) → r ≡ bases_by x y z → r ≡ bases_hold a b c
 rates_by a b c x y z e f g r h = rw (h, e, f, g) (bases_values a b c)
 
+-- ---- the end of an order
+-- where no MOA came nothing is told
+pub held_idle : (v : Service) (m : List ℕ) (st : Amounts) → st.order ≡ None → (o : Option Order) → amounts_of o st.first22 st.first23 st.first24 st.first25 st.first26 ≡ order_ended v m st o
+held_idle v m st e o = rw (e, lesser_last st.first23, lesser_last st.first24, lesser_last st.first25, lesser_last st.first26) refl
+
+pub held_live : (v : Service) (m : List ℕ) (o : Order) (a b c : Bool) (w : ℕ) → a ≡ says (value_in v o.at m 1 0) "9" || says (value_in v o.at m 1 0) "57"
+    → b ≡ capitals (value_in v o.at m 1 2) → c ≡ not (says (value_in v o.at m 1 0) "57") || o.exchanged → w ≡ worth (amount_of (value_in v o.at m 1 1))
+    → holds_of a b c (eqb w o.sum) ≡ held_by v m o
+held_live v m o a b c w h1 h2 h3 h4 = rw (h1, h2, h3, h4) refl
+
+pub next_by_lem : (st : Amounts) (p : Order) (h : Holds) (o : Option Order) (f23 f24 f25 f26 : Option ℕ)
+    → f23 ≡ lesser st.first23 (place_unless h.qualifier p.nth) → f24 ≡ lesser st.first24 (place_unless h.currency p.nth)
+    → f25 ≡ lesser st.first25 (place_unless h.exchange p.nth) → f26 ≡ lesser st.first26 (place_unless h.total p.nth)
+    → amounts_of o st.first22 f23 f24 f25 f26 ≡ ended_with st p h o
+next_by_lem st p h o f23 f24 f25 f26 h1 h2 h3 h4 = rw (h1, h2, h3, h4) refl
+
+-- what holds of the order at hand, told apart from its end
+module _ (v : Service) (m : List ℕ) (st : Amounts) (p : Order) (g : st.order ≡ Some p) (h : Holds) (d : h ≡ held_by v m p) where
+  pub ended_held : (o : Option Order) → ended_with st p h o ≡ order_ended v m st o
+  ended_held o = rw (d, g) refl
+
+  pub close_by : (o : Option Order) (r : Amounts) → o ≡ None → r ≡ ended_with st p h o → r ≡ amounts_close v m st
+  close_by o r e q = q ∙ ended_held o ∙ rw e refl
+
+pub moa_by : (v : Service) (m : List ℕ) (st u r : Amounts) (p : Order) (h : Holds) (o : Option Order) (x y : Option ℕ) (n : ℕ) → x ≡ y → u ≡ with_form st (is_of x) n
+    → st.order ≡ Some p → h ≡ held_by v m p → r ≡ ended_with u p h o → r ≡ order_ended v m (with_form st (is_of y) n) o
+moa_by v m st u r p h o x y n e f g d q = q ∙ rw (f, e) (ended_held v m (with_form st (is_of y) n) p g h d o)
+
 -- ---- a step
 module _ (v : Service) (m : List ℕ) (st : Amounts) (nth row i : ℕ) where
   abbrev Stepped : Amounts → Type 0
@@ -103,6 +133,9 @@ module _ (v : Service) (m : List ℕ) (st : Amounts) (nth row i : ℕ) where
   pub step_lin : row ≡ 17 → (r : Amounts) → r ≡ order_ended v m st None → Stepped r
   unfolding sums_step held_step first_step test_step
   step_lin e r q = (rw (q, e) refl, rw (q, e) refl)
+
+  pub at_lin : row ≡ 17 → (p : Order) (h : Holds) (o : Option Order) (r : Amounts) → o ≡ None → r ≡ ended_with st p h o → own_of r ≡ own_at (own_of st) row i
+  at_lin e p h o r q f = rw (f, q, e) refl
 
   pub step_moa : row ≡ 23 → (u r : Amounts) → u ≡ with_form st (is_of (amount_of (value_in v i m 1 1))) nth → r ≡ order_ended v m u (Some (order_of nth i false 0)) → Stepped r
   unfolding sums_step held_step first_step test_step

@@ -14,7 +14,7 @@ use Rattle.segments.specs.Laws.StartsLaws.{starts_past, starts_finished, starts_
 use Rattle.chart.specs.declared.Cursor.{Cursor}
 use Rattle.chart.specs.Tags.{tag_on, tags_from, tags_of}
 use Rattle.chart.specs.Laws.TagsLaws.{tags_past, tags_finished, tags_unfinished}
-use Rattle.chart.specs.Forms.Cursor.{tag_at, cursor_at, step_by, step_from, CursorIs, Stepped, Tagged, Stands}
+use Rattle.chart.specs.Forms.Cursor.{tag_at, cursor_at, step_by, step_from, Onward, CursorIs, Stepped, Tagged, Stands}
 
 -- ---- the cursor at a place
 module _ (v : Service) (m : List ℕ) (i : ℕ) where
@@ -61,6 +61,10 @@ module _ (v : Service) (m : List ℕ) (c : Cursor) (k : Segment) (e : k ≡ segm
     is = ap (λ (s : Segment). step_by s v m c) (sym q) ∙ step_by_lem;
     onward = record { further = λ g. absurd (something v m c.at g (sym e ∙ q)) };
   }
+
+-- a loop over a message's segments ends
+pub onward_less : (n i j a : ℕ) → a ≡ i → Onward n i j → a < n → n - j < n - a
+onward_less n i j a e w h = let l = w.further (let g : i < n = omega arith in g) in omega arith
 
 -- ---- what a step passes: the segment at c, by the segments' laws
 pub record Passes (v : Service) (m : List ℕ) (c r : Cursor) : Type 0 where

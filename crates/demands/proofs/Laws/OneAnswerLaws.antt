@@ -1,13 +1,20 @@
 -- No public function has a second answer. Assumes nothing.
-use Rattle.std.specs.Prelude.{ℕ, ◌≡◌, refl, List, Option, None, Some}
+use Rattle.std.specs.Prelude.{ℕ, ◌≡◌, refl, List, [], ◌∷◌, Option, None, Some}
 use Rattle.std.specs.Option.{option_map}
-use Rattle.std.proofs.Common.{ap₂}
+use Rattle.std.specs.Iterator.{YieldsFirstBy}
+use Rattle.std.proofs.Common.{arith, sym, ap, ap₂, ◌∙◌}
 use Rattle.service.specs.declared.Service.{Service}
 use Rattle.service.specs.Laws.Unique.{only}
 use Rattle.segments.specs.declared.Text.{Text}
 use Rattle.segments.specs.declared.Segments.{Segments}
-use Rattle.segments.specs.Left.{segments_left}
+use Rattle.segments.specs.declared.Piece.{Piece}
+use Rattle.segments.specs.Left.{segments_left, Steps as PieceNext}
 use Rattle.segments.specs.SegmentList.{segments_from}
+use Rattle.parts.specs.declared.Part.{Part}
+use Rattle.parts.specs.declared.Part.TheVariants as part
+use Rattle.parts.specs.declared.Tokens.{Tokens}
+use Rattle.parts.specs.Parts.{Tok, byte, comp, elem}
+use Rattle.parts.specs.Tokens.{tok, tokens_left}
 use Rattle.parts.proofs.Laws.Unique.{only_component}
 use Rattle.interchange.specs.Laws.OpenedLaws.{one_opening}
 use Rattle.interchange.specs.Laws.ClosingLaws.{one_closing}
@@ -28,7 +35,11 @@ use Rattle.walk.specs.Laws.JudgesLaws.{one_judge}
 use Rattle.twineherald.specs.Laws.NumbersLaws.{one_open, one_close, one_step, one_check}
 use Rattle.twineherald.specs.Laws.SeveralLaws.{one_steps}
 use Rattle.lines.specs.Lines.{message_line, end_line, open_line}
-use Rattle.demands.specs.OneAnswer.{Only, OnlyLine, filled, OneAnswer}
+use Rattle.message.specs.Segs.{Seg}
+use Rattle.rule.specs.declared.placed.Place.{Place}
+use Rattle.rule.specs.declared.placed.Places.{Places}
+use Rattle.rule.specs.Left.{places_left, Steps as PlaceNext}
+use Rattle.demands.specs.OneAnswer.{Only, OnlyLine, filled, piece_read, token_read, places_held, placed_seg, place_read, OneAnswer}
 use Rattle.faults.specs.Laws.FirstsLaws.{fault_one}
 
 one_cursor : (v : Service) (m : List ℕ) (at : ℕ) (x y : Cursor) → CursorIs v m at x → CursorIs v m at y → x ≡ y
@@ -66,6 +77,79 @@ one_control x y p = λ i. record { first29 = p i }
 one_trailer : (UNT : ℕ) (x y : Trailer UNT) → x.first17 ≡ y.first17 → x.first18 ≡ y.first18 → x ≡ y
 one_trailer UNT x y p q = λ i. record { first17 = p i; first18 = q i }
 
+-- a step of a reader: what it gives, by what is seen of it, and what it then has left
+abbrev first_or : {B : Type 0} → B → List B → B
+first_or d [] = d
+first_or d (b ∷ l) = b
+
+abbrev others : {B : Type 0} → List B → List B
+others [] = []
+others (b ∷ l) = l
+
+abbrev some_left : {B : Type 0} → List B → ℕ
+some_left [] = 0
+some_left (b ∷ l) = 1
+
+module _ {R A B : Type 0} (view : A → B) (left : R → List B) (r : R) where
+  no_more : (b : B) (l : List B) → left r ≡ [] → left r ≡ b ∷ l → ⊥
+  no_more b l e f = let w : ◌≡◌ {A = ℕ} 0 1 = ap some_left (sym e ∙ f) in omega arith
+
+  gives : (x y : Option A) (p q : R) → YieldsFirstBy view left r x p → YieldsFirstBy view left r y q → option_map view x ≡ option_map view y
+  gives None None p q h k = refl
+  gives None (Some b) p q h k = absurd (no_more (view b) (left q) h.0 k)
+  gives (Some a) None p q h k = absurd (no_more (view a) (left p) k.0 h)
+  gives (Some a) (Some b) p q h k = let e : view a ∷ left p ≡ view b ∷ left q = sym h ∙ k in ap (λ l. Some (first_or (view a) l)) e
+
+  leaves : (x y : Option A) (p q : R) → YieldsFirstBy view left r x p → YieldsFirstBy view left r y q → left p ≡ left q
+  leaves None None p q h k = h.1 ∙ sym k.1
+  leaves None (Some b) p q h k = absurd (no_more (view b) (left q) h.0 k)
+  leaves (Some a) None p q h k = absurd (no_more (view a) (left p) k.0 h)
+  leaves (Some a) (Some b) p q h k = let e : view a ∷ left p ≡ view b ∷ left q = sym h ∙ k in ap others e
+
+-- the item itself, where it is seen whole
+same_item : {A : Type 0} (x y : Option A) → option_map (λ a. a) x ≡ option_map (λ a. a) y → x ≡ y
+same_item None None e = e
+same_item None (Some b) e = e
+same_item (Some a) None e = e
+same_item (Some a) (Some b) e = e
+
+-- a reader of tokens gives each token as a case of its own
+abbrev part_of : Tok → Part
+part_of (byte b) = part.Byte b
+part_of comp = part.Comp
+part_of elem = part.Elem
+
+part_again : (x : Option Part) → option_map part_of (option_map tok x) ≡ x
+part_again None = refl
+part_again (Some (part.Byte b)) = refl
+part_again (Some part.Comp) = refl
+part_again (Some part.Elem) = refl
+
+one_piece : (r : Segments) (x y : Option Piece × Segments) → PieceNext r x.0 x.1 → PieceNext r y.0 y.1 → piece_read x ≡ piece_read y
+one_piece r x y h k =
+    let a = same_item x.0 y.0 (gives (λ (p : Piece). p) segments_left r x.0 y.0 x.1 y.1 h.yields k.yields) in
+    let b = leaves (λ (p : Piece). p) segments_left r x.0 y.0 x.1 y.1 h.yields k.yields in
+    let c = only h.same k.same in
+    λ i. (a i, b i, c i)
+
+one_token : (r : Tokens) (x y : Option Part × Tokens) → YieldsFirstBy tok tokens_left r x.0 x.1 → YieldsFirstBy tok tokens_left r y.0 y.1
+    → token_read x ≡ token_read y
+one_token r x y h k =
+    let a = sym (part_again x.0) ∙ ap (option_map part_of) (gives tok tokens_left r x.0 y.0 x.1 y.1 h k) ∙ part_again y.0 in
+    let b = leaves tok tokens_left r x.0 y.0 x.1 y.1 h k in
+    λ i. (a i, b i)
+
+one_place : (r : Places) (x y : Option Place × Places) → PlaceNext r x.0 x.1 → PlaceNext r y.0 y.1
+    → place_read r.text x ≡ place_read r.text y
+one_place r x y h k =
+    let a = gives (placed_seg r.text) places_left r x.0 y.0 x.1 y.1 h.yields k.yields in
+    let b = leaves (placed_seg r.text) places_left r x.0 y.0 x.1 y.1 h.yields k.yields in
+    let c = only h.same k.same in
+    λ i. (a i, b i, c i)
+
+one_placed : (x y : Places) {l : List Seg} {t : Text} → (places_left x ≡ l) × (x.text ≡ t) → (places_left y ≡ l) × (y.text ≡ t) → places_held x ≡ places_held y
+one_placed x y h k = let a = only h.0 k.0 in let b = only h.1 k.1 in λ i. (a i, b i)
+
 one_line : (l : List ℕ) → OnlyLine l
 one_line l o o1 o2 x y p q = ap₂ filled (only p.answer q.answer) (only p.room q.room)
 
@@ -79,8 +163,10 @@ one = record {
   segments_skip_breaks = λ s at x y p q. only p q;
   segments_start = λ r x y p q. only p q;
   segments_segments = λ t at x y. one_reader t at x y;
+  segments_next = λ r x y. one_piece r x y;
   segments_segment_at = λ s at v x y p q. only p q;
   parts_token_at = λ s i v x y p q. only p q;
+  parts_next = λ r x y. one_token r x y;
   parts_component = λ s at v e c x y. only_component v s at e c x y;
   values_code_at = λ s at v x y p q. only p q;
   values_is_capitals = λ code x y p q. only p q;
@@ -120,7 +206,8 @@ one = record {
   tally_tally_of = λ m v x y p q. only p q;
   tally_segments_before = λ m v at x y p q. only p q;
   tally_segment_start = λ m v before x y p q. only p q;
-  rule_places = λ text t x y p q. only p q;
+  rule_places = λ text t x y. one_placed x y;
+  rule_next = λ r x y. one_place r x y;
   rule_refusal = λ rules other x y p q. fault_one x y (only p q);
   rule_judge = λ rules m v t x y p q. fault_one x y (only p q);
   numbering_line_start_lem = λ l x y p q. only p q;
@@ -162,6 +249,7 @@ one = record {
   lines_message_line = λ place told. one_line (message_line place told);
   lines_end_line = λ messages accepted strays closing. one_line (end_line messages accepted strays closing);
   lines_open_line = λ number. one_line (open_line number);
+  twineherald_from = λ r x y p q. only p q;
   twineherald_open = one_open;
   twineherald_walk = one_step;
   twineherald_walk_each = λ b ps a a1 a2 x y p q. let w = one_steps b ps a a1 a2 x y p q in ap₂ filled w.0 w.1;

@@ -34,6 +34,8 @@ use Rattle.chart.specs.Table.{Table}
 use Rattle.kinds.specs.declared.Kind.{Kind}
 use Rattle.kinds.specs.declared.Kind.TheVariants.{Paymul, Debmul}
 use Rattle.kinds.specs.Kinds.{table_of}
+use Rattle.paymul.specs.Table.{PAYMUL}
+use Rattle.debmul.specs.Table.{DEBMUL}
 use Rattle.values.specs.Text.{text, same_list}
 use Rattle.values.specs.Laws.TextLaws.{says_code}
 use Rattle.interchange.specs.Laws.TagLaws.{unh_code}
@@ -43,7 +45,7 @@ use Rattle.message.specs.Kinds.{means, chart_for}
 use Rattle.message.specs.Faults.{tell_all, least_of}
 use Rattle.message.specs.Placed.{placed_on}
 use Rattle.report.specs.Reported.{raw_of, is_kind, headed}
-use Rattle.report.specs.Forms.Checks.{ends_by, ends_with, kind_at, typed, headed_at, outright, early_fault, misfit_at, Misfit, nothing, segment, Late, placed, stuck, byte_refusal, start_by, refusal_at}
+use Rattle.report.specs.Forms.Checks.{ends_by, ends_with, kind_at, typed, headed_at, outright, Begun, early_fault, misfit_at, Misfit, nothing, segment, Late, placed, stuck, byte_refusal, start_by, refusal_at}
 
 -- what is no value is none
 pub none_of : {A : Type 0} (e : Option A) → ((x : A) → e ≡ Some x → ⊥) → e ≡ None
@@ -117,6 +119,14 @@ module _ (v : Service) (m : List ℕ) (x : ℕ) (q : x ≡ code_of (value_in v 0
   pub kind_paymul : (x ≡ codes.DEBMUL → ⊥) → Paymul ≡ kind_at v m
   unfolding text code_from
   kind_paymul h = rw (says_code (value_in v 0 m 2 0) "DEBMUL" refl, ne_eqb (code_of (value_in v 0 m 2 0)) codes.DEBMUL (λ e. h (q ∙ e)))
+
+-- a message that is read as one of a kind, with that kind's table
+module _ (c : Kind) (v : Service) (m : List ℕ) (s : Begun c v m) where
+  pub begun_paymul : c ≡ Paymul → (t : Table) → t ≡ PAYMUL → Begun c v m × (t ≡ table_of c)
+  begun_paymul e t q = (s, q ∙ sym (ap table_of e))
+
+  pub begun_debmul : c ≡ Debmul → (t : Table) → t ≡ DEBMUL → Begun c v m × (t ≡ table_of c)
+  begun_debmul e t q = (s, q ∙ sym (ap table_of e))
 
 -- the rules of the kind, with its table
 module _ (v : Service) (m : List ℕ) (k n : ℕ) (c : Kind) (t : Table) (q : t ≡ table_of c) (r : Option Told) where

@@ -19,12 +19,14 @@ use Rattle.kinds.specs.declared.Kind.{Kind}
 use Rattle.kinds.specs.declared.Kind.TheVariants.{Paymul, Debmul}
 use Rattle.kinds.specs.Kinds.{table_of}
 use Rattle.paymul.specs.Table.{PAYMUL}
+use Rattle.debmul.specs.Table.{DEBMUL}
 use Rattle.chart.proofs.Guide.{rows_length}
 use Rattle.message.specs.Segs.{segs_from, segs_of, those, MOA5, is}
 use Rattle.message.specs.Rules.{worth, amount, totals_of}
 use Rattle.message.specs.Kinds.{chart_for, order_count, totals_for}
+use Rattle.interchange.specs.declared.Refusal.{Refusal}
 use Rattle.report.specs.declared.Counts.{Counts}
-use Rattle.report.specs.Answers.{Accepted}
+use Rattle.report.specs.Answers.{Report, Accepted, Refused}
 use Rattle.report.specs.Reported.{filled}
 use Rattle.report.specs.Forms.Checks.{kind_at, listed_orders}
 use Rattle.report.specs.Forms.Judging.{lists_of, lists_by}
@@ -37,9 +39,22 @@ module _ (v : Service) (m : List ℕ) (c : Counts) (x x' : Lists) where
   unfolding lists_of
   lists_with k t e n q h = h ∙ rw (e, q) refl
 
+  pub lists_order : (t : Table) → t ≡ PAYMUL → x' ≡ lists_after t v m c.segments c.orders x → x' ≡ lists_of Paymul v m c x
+  lists_order t e h = lists_with Paymul t e c.orders refl h
+
+  pub lists_advice : (t : Table) → t ≡ DEBMUL → x' ≡ lists_after t v m c.segments 0 x → x' ≡ lists_of Debmul v m c x
+  lists_advice t e h = lists_with Debmul t e 0 refl h
+
+  pub lists_kind : (k d : Kind) → k ≡ d → x' ≡ lists_of d v m c x → x' ≡ lists_of k v m c x
+  lists_kind k d e h = h ∙ sym (ap (λ (i : Kind). lists_of i v m c x) e)
+
 -- by the kind that the UNH names
 pub lists_accepted : (v : Service) (m : List ℕ) (c : Counts) (x x' : Lists) (k : Kind) → k ≡ kind_at v m → x' ≡ lists_of k v m c x → x' ≡ lists_by v m (Accepted c) x
 lists_accepted v m c x x' k q h = h ∙ ap (λ (i : Kind). lists_of i v m c x) q
+
+-- a refusal changes no list
+pub lists_refused : (v : Service) (m : List ℕ) (r : Report) (x : Lists) (f : Refusal) → r ≡ Refused f → x ≡ lists_by v m r x
+lists_refused v m r x f e = sym (ap (λ (y : Report). lists_by v m y x) e)
 
 segs_length : (v : Service) (m : List ℕ) (n : ℕ) (rs is : List ℕ) → length rs ≡ length is → length (segs_from v m n rs is) ≡ length rs
 unfolding segs_from

@@ -1,6 +1,7 @@
 -- The first byte of a kind: one turn of each search for it at a position of a list, and what it says of where a segment ends. Assumes nothing.
-use Rattle.std.specs.Prelude.{ℕ, zero, suc, ◌+◌, ◌-◌, ◌^◌, ◌≤◌, ◌<◌, ◌≡◌, Bool, eqb, ltb, length, get_or, take, drop}
-use Rattle.std.proofs.Common.{add-zero, arith, ◌∙◌, ap, subst, drop_of_length-le, get_or-drop, eqb-true, ltb-true, ltb-false, Fits}
+use Rattle.std.specs.Prelude.{ℕ, zero, suc, ◌+◌, ◌-◌, ◌*◌, ◌/◌, ◌^◌, ◌≤◌, ◌<◌, ◌≡◌, Bool, eqb, ltb, length, get_or, take, drop}
+use Rattle.std.proofs.Math.Nat.{add-mul-div_left, add-mul-mod_self_left}
+use Rattle.std.proofs.Common.{add-zero, zero-add, arith, lit<, ◌∙◌, ap, subst, drop_of_length-le, get_or-drop, eqb-true, ltb-true, ltb-false, Fits}
 use Rattle.std.proofs.Math.Path.{refl, sym}
 use mathlib.Core.List.{List, [], ◌∷◌}
 use Rattle.std.proofs.Math.Bool.{true, false}
@@ -9,6 +10,7 @@ use Rattle.std.proofs.Math.ListN.{length-drop}
 use Rattle.std.proofs.lemmas.Bool.{eqb-false}
 use Rattle.std.proofs.lemmas.List.{take_rest}
 use Rattle.std.specs.Int.{w64}
+use Rattle.std.specs.Int.Count.{count_trailing_zeros, under}
 use Rattle.service.specs.declared.Service.{Service}
 use Rattle.segments.specs.declared.Class.{Class}
 use Rattle.segments.specs.declared.Class.TheVariants.{Plain, Comp, Elem, Rel, Term}
@@ -20,6 +22,17 @@ use Rattle.segments.specs.Forms.Bytes.{end_by, end_from, follows_release}
 use Rattle.segments.specs.Forms.Find.{first_of}
 use Rattle.memchr.specs.Find.{Passes, is_byte, NoneBefore, Nowhere}
 use Rattle.segments.specs.Laws.BytesLaws.{class_term, term_of, rel_of}
+
+-- ---- the lowest set digit
+pub digit_set : (k m : ℕ) → count_trailing_zeros (suc k) (1 + 2 * m) ≡ 0
+unfolding count_trailing_zeros
+digit_set k m = ap (λ (d : ℕ). under d (count_trailing_zeros k ((1 + 2 * m) / 2))) (add-mul-mod_self_left 1 2 m)
+
+pub digit_clear : (k m : ℕ) → count_trailing_zeros (suc k) (0 + 2 * m) ≡ suc (count_trailing_zeros k m)
+unfolding count_trailing_zeros
+digit_clear k m =
+    ap (λ (d : ℕ). under d (count_trailing_zeros k ((0 + 2 * m) / 2))) (add-mul-mod_self_left 0 2 m)
+    ∙ ap (λ (h : ℕ). suc (count_trailing_zeros k h)) (add-mul-div_left 0 m (lit< tt) ∙ zero-add m)
 
 -- ---- what a search by `memchr` finds, of the bytes that begin at i
 found_by : (x i k b : ℕ) (l : List ℕ) (t : Bool) → eqb b x ≡ t → (t ≡ true → ⊥) → first_of x (suc i) l ≡ suc i + k → if t i (first_of x (suc i) l) ≡ i + suc k
