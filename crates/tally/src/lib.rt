@@ -157,12 +157,17 @@ pub fn segments_before(text: Text<'_>, at: usize) -> usize
     n
 }
 
-// Where the segment with `before` segments before it begins; the end of the bytes where there are fewer.
+// Where the segment with `before` segments before it begins; the end of the bytes where there are fewer. No more than these are read: where the reader
+// stands after them the segment begins.
+#[tactic(auto, using(crate::specs::Laws::PlacesLaws::standing_start, crate::specs::Laws::PlacesLaws::stands_none, crate::specs::Laws::PlacesLaws::stands_on, crate::specs::Laws::PlacesLaws::stands_there))]
 pub fn segment_start(text: Text<'_>, before: usize) -> usize
     ensures { result ≡ start_at text.entry.service text.entry.bytes.now before }
 {
-    match text.segments(0).nth(before) {
-        Some(piece) => piece.start(),
-        None => text.bytes.len(),
+    let mut segments = text.segments(0);
+    for _ in 0..before {
+        let Some(_) = segments.next() else {
+            return text.bytes.len();
+        };
     }
+    segments.at
 }

@@ -1,5 +1,5 @@
 -- The loops that find a segment's number and a segment's place, turn by turn. Assumes nothing.
-use Prim.Native.Nat.{ℕ, suc, zero, ◌+◌, ◌≤◌, ◌<◌}
+use Prim.Native.Nat.{ℕ, suc, zero, ◌+◌, ◌-◌, ◌≤◌, ◌<◌}
 use native.Mathlib.Omega.{arith}
 use Rattle.std.specs.Prelude.{◌≡◌, Bool, get_or, ltb, Option, None, Some, slice_get, map}
 use Rattle.segments.specs.SegmentList.{start_of}
@@ -18,7 +18,7 @@ use Rattle.segments.specs.declared.Segment.TheVariants as segment
 use Rattle.segments.specs.declared.Piece.{Piece}
 use Rattle.segments.specs.declared.Piece.TheVariants.{Finished as finished, Unfinished as unfinished}
 use Rattle.segments.specs.SegmentList.{segments_from, starts_from, starts_of, start_at}
-use Rattle.segments.specs.Laws.StartsLaws.{by_place, starts_count, starts_few, starts_past, starts_finished, starts_unfinished, starts_within}
+use Rattle.segments.specs.Laws.StartsLaws.{by_place, starts_count, starts_few, starts_past, starts_finished, starts_unfinished, starts_here, starts_within}
 use Rattle.tally.specs.Places.{next_start, pass_by, passed}
 
 -- the segments from a place on begin there, or none is left
@@ -125,3 +125,48 @@ nth_by d (suc j) (p ∷ l) = nth_by d j l
 pub nth_start : (v : Service) (m : List ℕ) (j : ℕ) (r : Option Piece) → r ≡ slice_get (segments_from v m 0) j → place_by (length m) r ≡ start_at v m j
 unfolding starts_from
 nth_start v m j r e = ap (place_by (length m)) e ∙ nth_by (length m) j (segments_from v m 0)
+
+-- what the loop keeps: of the segments left the one with `b - n` before it begins there, and the reader stays in the text
+pub record Standing (x : ℕ) (v : Service) (m : List ℕ) (b n : ℕ) (r : Segments) : Type 0 where
+  pub place : x ≡ get_or (map start_of (segments_left r)) (b - n) (length m)
+  pub service : r.text.service ≡ v
+  pub bytes : r.text.bytes.now ≡ m
+  pub within : r.at ≤ length m
+
+pub standing_start : (v : Service) (m : List ℕ) (b : ℕ) (r : Segments) → r.text.service ≡ v → r.text.bytes.now ≡ m → r.at ≡ 0 → Standing (start_at v m b) v m b 0 r
+unfolding starts_from
+standing_start v m b r s c z =
+    let e : segments_left r ≡ segments_from v m 0 = rw (s, c, z) in
+    let w : b - 0 ≡ b = omega arith in
+    record { place = rw (e, w); service = s; bytes = c; within = omega arith }
+
+none_there : (j d : ℕ) → get_or [] j d ≡ d
+none_there zero d = refl
+none_there (suc j) d = refl
+
+module _ (x : ℕ) (v : Service) (m : List ℕ) (b n : ℕ) (r : Segments) (inv : Standing x v m b n r) where
+  pub stands_there : b ≤ n → r.at ≡ x
+  unfolding starts_from
+  stands_there h =
+      let e : b - n ≡ 0 = omega arith in
+      let w = inv.within in
+      let a : get_or (map start_of (segments_left r)) 0 (length m) ≡ r.at = rw (inv.service, inv.bytes) (starts_here v m r.at w) in
+      sym (inv.place ∙ ap (λ (d : ℕ). get_or (map start_of (segments_left r)) d (length m)) e ∙ a)
+
+  module _ (q : Segments) where
+    pub stands_none : Steps r None q → length m ≡ x
+    stands_none w = sym (inv.place ∙ ap (λ (l : List Piece). get_or (map start_of l) (b - n) (length m)) w.yields.0 ∙ none_there (b - n) (length m))
+
+    pub stands_on : (p : Piece) → Steps r (Some p) q → n < b → Standing x v m b (n + 1) q
+    stands_on p w h =
+        let e : b - n ≡ suc (b - (n + 1)) = omega arith in
+        let c = ap (λ z. z.bytes.now) w.same ∙ inv.bytes in
+        let i = inv.within in record {
+          place =
+              inv.place
+              ∙ ap (λ (l : List Piece). get_or (map start_of l) (b - n) (length m)) w.yields
+              ∙ ap (λ (d : ℕ). get_or (start_of p ∷ map start_of (segments_left q)) d (length m)) e;
+          service = ap (λ z. z.service) w.same ∙ inv.service;
+          bytes = c;
+          within = subst (λ l. q.at ≤ length l) c (w.within (rw inv.bytes i));
+        }
