@@ -24,7 +24,7 @@ use Rattle.chart.proofs.Guide.{rows_length}
 use Rattle.message.specs.Segs.{segs_from, segs_of, those, MOA5, is}
 use Rattle.message.specs.Rules.{worth, amount, totals_of}
 use Rattle.message.specs.Kinds.{chart_for, order_count, totals_for}
-use Rattle.interchange.specs.declared.Refusal.{Refusal}
+use Rattle.interchange.specs.Answers.{Refusal}
 use Rattle.report.specs.declared.Counts.{Counts}
 use Rattle.report.specs.Answers.{Report, Accepted, Refused}
 use Rattle.report.specs.Reported.{filled}
