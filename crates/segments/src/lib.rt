@@ -114,22 +114,23 @@ fn find(s: &[u8], at: usize, x: u8) -> usize
     }
 }
 
-// The first unreleased terminator at or after `at`, byte by byte. A release is passed over together with the byte that it holds: no range has these steps.
-#[tactic(auto, using(crate::specs::Laws::BytesLaws::end_none, crate::specs::Laws::BytesLaws::end_term, crate::specs::Laws::BytesLaws::end_rel, crate::specs::Laws::BytesLaws::end_plain))]
+// The first unreleased terminator at or after `at`, byte by byte.
+#[tactic(auto, using(crate::specs::Laws::BytesLaws::end_none, crate::specs::Laws::BytesLaws::end_held, crate::specs::Laws::BytesLaws::end_term, crate::specs::Laws::BytesLaws::end_on))]
 fn slow_end(text: Text<'_>, at: usize) -> Option<usize>
     ensures { result ≡ end_from text.entry.service false at (drop at text.entry.bytes.now) }
 {
     let release = release_of(text.service);
-    let mut i = at;
-    while let Some(&b) = text.bytes.get(i) {
+    let mut released = false;
+    for i in at..text.bytes.len() {
+        if released {
+            released = false;
+            continue;
+        }
+        let b = text.bytes[i];
         if b == text.service.terminator {
             return Some(i);
         }
-        if b == release {
-            i += 2;
-        } else {
-            i += 1;
-        }
+        released = b == release;
     }
     None
 }

@@ -126,13 +126,6 @@ module _ (x : Option ℕ) (v : Service) (s : List ℕ) (i : ℕ) (r : Bool) (inv
       pub end_on : x ≡ end_from v (eqb (get_or s i 0) q) (i + 1) (drop (i + 1) s)
       end_on = on_by (eqb (get_or s i 0) q) refl
 
-      -- the byte after a release is passed over with it
-      pub end_rel : get_or s i 0 ≡ q → x ≡ end_from v false (i + 2) (drop (i + 2) s)
-      end_rel e = on_by true (eq-eqb _ _ e) ∙ past_held v (i + 1) s ∙ ap (λ (n : ℕ). end_from v false n (drop n s)) (omega arith)
-
-      pub end_plain : (get_or s i 0 ≡ q → ⊥) → x ≡ end_from v false (i + 1) (drop (i + 1) s)
-      end_plain n = on_by false (ne_eqb _ _ n)
-
 -- breaks
 module _ (x : ℕ) (s : List ℕ) (i : ℕ) (inv : x ≡ past_breaks i (drop i s)) where
   pub breaks_none : length s ≤ i → i ≡ x
