@@ -4,7 +4,7 @@ use Rattle.numbers.specs.Table.{table_number}
 use Rattle.numbers.specs.declared.Number.TheVariants as numbers
 use Rattle.service.specs.declared.Service.{Service}
 use Rattle.values.specs.Exactly.{Exactly}
-use Rattle.interchange.specs.declared.Refusal.{Refusal}
+use Rattle.interchange.specs.Answers.{Refusal}
 use Rattle.interchange.specs.Answers.{Refused}
 use Rattle.interchange.specs.Messages.{Extent, closed, messages_of}
 use Rattle.interchange.specs.Envelope.{refusal, body_of}

@@ -1,13 +1,12 @@
 -- "prove that no second answer satisfies it": every public function of every crate, what its contract says of the answer, and that two answers that meet it are one,
 -- the final content of lent lists included. Where the answer is one up to something alone, the field says what is one; docs/DECISIONS.md says why.
-use Rattle.std.specs.Prelude.{ℕ, ◌%◌, ◌≡◌, List, [], Bool, false, not, ◌&&◌, ◌||◌, length, drop, set, Option, None}
+use Rattle.std.specs.Prelude.{ℕ, ◌%◌, ◌≡◌, List, [], Bool, false, not, ◌&&◌, ◌||◌, length, drop, set, Option, None, Result}
 use Rattle.std.specs.Option.{option_map}
 use Rattle.std.specs.Iterator.{YieldsFirstBy}
 use Rattle.numbers.specs.declared.Number.{Number}
 use Rattle.numbers.specs.Table.{table_number}
 use Rattle.numbers.specs.Table.{number_told}
-use Rattle.faults.specs.Firsts.{told_of}
-use Rattle.std.specs.Option.{option_map}
+use Rattle.faults.specs.Firsts.{told_by, told_of}
 use Rattle.service.specs.declared.Service.{Service}
 use Rattle.service.specs.Service.{is_mark, characters_of, fitting}
 use Rattle.segments.specs.Classes.{class_of, is_break}
@@ -32,11 +31,12 @@ use Rattle.interchange.specs.Envelope.{is_reference, refusal}
 use Rattle.interchange.specs.Forms.Answers.{read_by}
 use Rattle.interchange.specs.Opened.{OpenedAs}
 use Rattle.interchange.specs.Closed.{ClosedAs}
-use Rattle.faults.specs.declared.Fault.{Fault}
+use Rattle.faults.specs.declared.Fault as fault
+use Rattle.faults.specs.Firsts.{Fault}
 use Rattle.faults.specs.Firsts.{lesser, place_unless, number_first}
 use Rattle.lent.specs.Lists.{Lists, left}
 use Rattle.lent.specs.Forms.Puts.{past_one}
-use Rattle.lines.specs.Lines.{message_line, end_line, open_line, Lined}
+use Rattle.lines.specs.Lines.{message_line_by, message_line, end_line, open_line, Lined}
 use Rattle.chart.specs.Table.{Table}
 use Rattle.chart.specs.declared.Cursor.{Cursor}
 use Rattle.chart.specs.Forms.Cursor.{CursorIs, Stepped as Onwards}
@@ -73,6 +73,7 @@ use Rattle.paymul.specs.Table.{PAYMUL}
 use Rattle.debmul.specs.Table.{DEBMUL}
 use Rattle.kinds.specs.declared.Kind.{Kind}
 use Rattle.kinds.specs.Kinds.{table_of}
+use Rattle.report.specs.declared.Counts.{Counts}
 use Rattle.report.specs.Answers.{Report}
 use Rattle.report.specs.Reported.{Reported}
 use Rattle.report.specs.Judged.{Judged}
@@ -158,6 +159,8 @@ pub record OneAnswer : Type 0 where
   pub values_number_is : (s : List ℕ) (at : ℕ) (v : Service) (e c n : ℕ) → OnlyIs (is_number (number_of (value_in v at s e c)) n)
   -- interchange
   pub interchange_refuse : (number : Number) → OnlyIs (refusal number)
+  -- and of any number, one outside the table too
+  pub interchange_refuse_any : (number : ℕ) → OnlyIs (refusal number)
   pub interchange_is_reference : (n : ℕ) → OnlyIs (is_reference n)
   pub interchange_characters_of : (s : List ℕ) → OnlyIs (read_by s)
   pub interchange_open : (s : List ℕ) → Only (OpenedAs s)
@@ -165,12 +168,17 @@ pub record OneAnswer : Type 0 where
   pub interchange_close : (s : List ℕ) → Only (ClosedAs s)
   -- numbers
   pub numbers_from : (c : Number) → OnlyIs (table_number c)
+  pub numbers_number : (c : Number) → OnlyIs (table_number c)
+  -- and of any number, one outside the table too
+  pub numbers_number_any : (n : ℕ) → OnlyIs n
   pub numbers_told : (c : Option Number) → OnlyIs (number_told c)
   -- faults
   pub faults_earlier : (a b : Option ℕ) → OnlyIs (lesser a b)
   pub faults_unless : (holds : Bool) (at : ℕ) → OnlyIs (place_unless holds at)
   pub faults_keep : (first : Option ℕ) (holds : Bool) (at : ℕ) → OnlyIs (lesser first (place_unless holds at))
   pub faults_before : (number : Number) (first : Option ℕ) (other : Option Fault) → Only (λ (f : Option Fault). told_of f ≡ number_first (table_number number) first (told_of other))
+  -- and of any number, one outside the table too
+  pub faults_before_any : (number : ℕ) (first : Option ℕ) (other : Option (fault.Fault ℕ)) → Only (λ (f : Option (fault.Fault ℕ)). told_by (λ n. n) f ≡ number_first number first (told_by (λ n. n) other))
   -- lent
   pub lent_low16 : (x : ℕ) → OnlyIs (x % 65536)
   pub lent_low32 : (x : ℕ) → OnlyIs (x % 4294967296)
@@ -259,10 +267,12 @@ pub record OneAnswer : Type 0 where
   pub rewrite_rewrite : (s o o1 o2 : List ℕ) (x y : Rewriting) → x ≡ rewriting_of s (length o) → o1 ≡ room_after s o → y ≡ rewriting_of s (length o) → o2 ≡ room_after s o → filled x o1 ≡ filled y o2
   -- lines
   pub lines_message_line : (place : ℕ) (told : Report) → OnlyLine (message_line place told)
+  -- and of a refusal by any number, one outside the table too
+  pub lines_message_line_any : (place : ℕ) (told : Result Counts (Refusal ℕ)) → OnlyLine (message_line_by (λ n. n) place told)
   pub lines_end_line : (messages accepted strays closing : ℕ) → OnlyLine (end_line messages accepted strays closing)
   pub lines_open_line : (number : ℕ) → OnlyLine (open_line number)
   -- twineherald
-  pub twineherald_from : (r : Refusal) → OnlyIs (refused_of r)
+  pub twineherald_from : (r : Refusal Number) → OnlyIs (refused_of r)
   pub twineherald_open : (b : List ℕ) → Only (OpenedWith b)
   pub twineherald_walk : (b : List ℕ) (at : ℕ) → OnlyWith (Stepped b at)
   pub twineherald_walk_each : (b ps : List ℕ) (a a1 a2 : List (List ℕ)) (x y : ℕ) → SteppedEach b ps a a1 x → SteppedEach b ps a a2 y → filled x a1 ≡ filled y a2

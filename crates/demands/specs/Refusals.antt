@@ -5,7 +5,7 @@ use Rattle.numbers.specs.Table.{table_number}
 use Rattle.service.specs.declared.Service.{Service}
 use Rattle.service.specs.Service.{Fit, among, characters_of}
 use Rattle.segments.specs.SegmentList.{segments_from, start_at, end_at}
-use Rattle.interchange.specs.declared.Refusal.{Refusal}
+use Rattle.interchange.specs.Answers.{Refusal}
 use Rattle.interchange.specs.Answers as o
 use Rattle.interchange.specs.Answers.{Closing}
 use Rattle.interchange.specs.Opened.{OpenedAs}

@@ -2,7 +2,7 @@
 use Rattle.std.specs.Prelude.{ℕ, ◌≡◌, List, [], ◌∷◌, ◌++◌, replicate}
 use Rattle.service.specs.Service.{plain_service}
 use Rattle.values.specs.Text.{text}
-use Rattle.interchange.specs.declared.Refusal.{Refusal}
+use Rattle.interchange.specs.Answers.{Refusal}
 use Rattle.lent.specs.Lists.{Lists, lists, Left}
 use Rattle.report.specs.declared.Counts.{Counts}
 use Rattle.report.specs.Answers.{Report, Accepted, Refused}

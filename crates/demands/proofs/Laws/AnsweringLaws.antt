@@ -10,7 +10,7 @@ use Rattle.service.specs.declared.Service.{Service}
 use Rattle.service.specs.declared.Characters.{Characters}
 use Rattle.service.specs.Service.{Fit, Unfit, characters_of}
 use Rattle.service.specs.Tests.{if}
-use Rattle.interchange.specs.declared.Refusal.{Refusal}
+use Rattle.interchange.specs.Answers.{Refusal}
 use Rattle.interchange.specs.Answers.{Opening, Closing}
 use Rattle.interchange.specs.Messages.{ends_closed}
 use Rattle.interchange.specs.Envelope.{refusal, opening_number}
@@ -19,7 +19,7 @@ use Rattle.interchange.specs.Closed.{ClosedAs}
 use Rattle.interchange.specs.Forms.Answers.{opening_of, closing_of}
 use Rattle.interchange.specs.Laws.OpenedLaws.{is_opening}
 use Rattle.interchange.specs.Laws.ClosingLaws.{is_closing}
-use Rattle.faults.specs.declared.Fault.{Fault}
+use Rattle.faults.specs.Firsts.{Fault}
 use Rattle.lent.specs.Lists.{Lists, lists, left}
 use Rattle.chart.specs.Chart.{Placement, FailsAt, Reading}
 use Rattle.chart.specs.Tags.{tags_of}

@@ -3,7 +3,7 @@ use Rattle.std.specs.Prelude.{ℕ, ◌≡◌, refl, List, length}
 use Rattle.std.proofs.Common.{arith, sym, ◌∙◌, ap, subst}
 use Rattle.numbers.specs.Table.{table_number}
 use Rattle.service.specs.declared.Service.{Service}
-use Rattle.interchange.specs.declared.Refusal.{Refusal}
+use Rattle.interchange.specs.Answers.{Refusal}
 use Rattle.interchange.specs.Laws.OpenedLaws.{opens}
 use Rattle.lent.specs.Lists.{Lists, Left}
 use Rattle.report.specs.declared.Counts.{Counts}

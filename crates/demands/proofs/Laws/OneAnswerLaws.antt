@@ -34,13 +34,13 @@ use Rattle.walk.specs.Laws.WalksLaws.{one_walk}
 use Rattle.walk.specs.Laws.JudgesLaws.{one_judge}
 use Rattle.twineherald.specs.Laws.NumbersLaws.{one_open, one_close, one_step, one_check}
 use Rattle.twineherald.specs.Laws.SeveralLaws.{one_steps}
-use Rattle.lines.specs.Lines.{message_line, end_line, open_line}
+use Rattle.lines.specs.Lines.{message_line_by, message_line, end_line, open_line}
 use Rattle.message.specs.Segs.{Seg}
 use Rattle.rule.specs.declared.placed.Place.{Place}
 use Rattle.rule.specs.declared.placed.Places.{Places}
 use Rattle.rule.specs.Left.{places_left, Steps as PlaceNext}
 use Rattle.demands.specs.OneAnswer.{Only, OnlyLine, filled, piece_read, token_read, places_held, placed_seg, place_read, OneAnswer}
-use Rattle.faults.specs.Laws.FirstsLaws.{fault_one}
+use Rattle.faults.specs.Laws.FirstsLaws.{fault_one_by, fault_one}
 
 one_cursor : (v : Service) (m : List ℕ) (at : ℕ) (x y : Cursor) → CursorIs v m at x → CursorIs v m at y → x ≡ y
 one_cursor v m at x y p q =
@@ -176,17 +176,21 @@ one = record {
   values_same_in = λ s at v e c other f d x y p q. only p q;
   values_number_is = λ s at v e c n x y p q. only p q;
   interchange_refuse = λ number x y p q. only p q;
+  interchange_refuse_any = λ number x y p q. only p q;
   interchange_is_reference = λ n x y p q. only p q;
   interchange_characters_of = λ s x y p q. only p q;
   interchange_open = λ s x y p q. one_opening s p q;
   interchange_find = λ s at v x y p q. only p q;
   interchange_close = λ s x y p q. one_closing s p q;
   numbers_from = λ c x y p q. only p q;
+  numbers_number = λ c x y p q. only p q;
+  numbers_number_any = λ n x y p q. only p q;
   numbers_told = λ c x y p q. only p q;
   faults_earlier = λ a b x y p q. only p q;
   faults_unless = λ holds at x y p q. only p q;
   faults_keep = λ first holds at x y p q. only p q;
   faults_before = λ number first other x y p q. fault_one x y (only p q);
+  faults_before_any = λ number first other x y p q. fault_one_by ℕ (λ n. n) (λ a b e. e) x y (only p q);
   lent_low16 = λ n x y p q. only p q;
   lent_low32 = λ n x y p q. only p q;
   lent_put = λ o o1 o2 j b x y p i q k. ap₂ filled (only i k) (only p q);
@@ -247,6 +251,7 @@ one = record {
   walk_judge = one_judge;
   rewrite_rewrite = λ s o o1 o2 x y p i q j. ap₂ filled (only p q) (only i j);
   lines_message_line = λ place told. one_line (message_line place told);
+  lines_message_line_any = λ place told. one_line (message_line_by (λ n. n) place told);
   lines_end_line = λ messages accepted strays closing. one_line (end_line messages accepted strays closing);
   lines_open_line = λ number. one_line (open_line number);
   twineherald_from = λ r x y p q. only p q;

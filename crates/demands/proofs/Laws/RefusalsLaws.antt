@@ -21,7 +21,7 @@ use Rattle.service.specs.Tests.{if}
 use Rattle.segments.specs.declared.Piece.{Piece}
 use Rattle.segments.specs.SegmentList.{segments_from, segments_after, all_finished, starts_of, start_at}
 use Rattle.segments.specs.Laws.StartsLaws.{starts_past, starts_count, starts_here}
-use Rattle.interchange.specs.declared.Refusal.{Refusal}
+use Rattle.interchange.specs.Answers.{Refusal}
 use Rattle.interchange.specs.Answers.{Opening, Closing, Found}
 use Rattle.interchange.specs.Answers as opening
 use Rattle.interchange.specs.Finds as found

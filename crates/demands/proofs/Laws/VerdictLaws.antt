@@ -5,7 +5,7 @@ use Rattle.numbers.specs.Table.{table_number}
 use Rattle.service.specs.declared.Service.{Service}
 use Rattle.service.specs.Service.{Fits}
 use Rattle.segments.specs.SegmentList.{segments_from}
-use Rattle.interchange.specs.declared.Refusal.{Refusal}
+use Rattle.interchange.specs.Answers.{Refusal}
 use Rattle.interchange.specs.Messages.{ends_closed}
 use Rattle.lent.specs.Lists.{Lists, left}
 use Rattle.lent.specs.Over.{over}

@@ -11,7 +11,7 @@ use Rattle.segments.specs.SegmentList.{pieces, starts_from}
 use Rattle.parts.specs.Parts.{lex, elements, value_at, value_of}
 use Rattle.values.specs.Text.{text, same_list}
 use Rattle.values.specs.Forms.Values.{digits, one_more, units, fraction}
-use Rattle.interchange.specs.declared.Refusal.{Refusal}
+use Rattle.interchange.specs.Answers.{Refusal}
 use Rattle.interchange.specs.Answers.{Opens}
 use Rattle.interchange.specs.Messages.{Extent, closed, bytes_of, tag_at, extent_of, messages_of}
 use Rattle.interchange.specs.Envelope.{is_reference, is_header, first_at, body_of}

@@ -9,7 +9,7 @@ use Rattle.std.specs.declared.option.Option.{Option}
 use Rattle.std.proofs.Math.Decide.{dec_lt}
 use Rattle.std.specs.Int.{w64}
 use Rattle.std.proofs.Common.{MutBor, Fits, arith, sym, ap, ◌∙◌, subst, append_assoc, append-nil, length-append, length-take-le}
-use Rattle.interchange.specs.declared.Refusal.{Refusal}
+use Rattle.interchange.specs.Answers.{Refusal}
 use Rattle.interchange.specs.declared.Closing as code
 use Rattle.interchange.specs.Answers.{Closing}
 use Rattle.interchange.specs.Answers as opening
