@@ -39,7 +39,11 @@ pub fn keep(first: Option<usize>, holds: bool, at: usize) -> Option<usize>
 }
 
 // The fault of the number, if it has a place, before any other fault. Any number is told, also one outside the table.
-pub fn before<N: Numbered>(number: N, first: Option<usize>, other: Option<Fault<N>>) -> Option<Fault<N>>
+pub fn before<N: Numbered>(
+    number: N,
+    first: Option<usize>,
+    other: Option<Fault<N>>,
+) -> Option<Fault<N>>
     ensures { told_by N.number result ≡ number_first (N.number number) first (told_by N.number other) }
 {
     first.map(|segment| Fault { number, segment }).or(other)

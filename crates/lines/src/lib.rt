@@ -64,7 +64,11 @@ fn end(mut line: Line, list: &[u64], room: &mut [u8]) -> usize
 
 // Writes the line of a message over the front of `room`, and gives its length; 0 if it does not fit.
 // Any number is written, also one outside the table: `message_line_by` promises it of each.
-pub fn message_line<N: Numbered>(place: u64, told: Result<Counts, Refusal<N>>, room: &mut [u8]) -> usize
+pub fn message_line<N: Numbered>(
+    place: u64,
+    told: Result<Counts, Refusal<N>>,
+    room: &mut [u8],
+) -> usize
     ensures lined { Lined (message_line_by N.number place told) room.old room.new result }
     ensures told_len_bound { length (message_line_by N.number place told) ≤ 128 }
 {
