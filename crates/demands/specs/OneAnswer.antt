@@ -206,8 +206,9 @@ pub record OneAnswer : Type 0 where
   pub tally_tally_of : (m : List ℕ) (v : Service) → OnlyIs (tally_of v m (segments_from v m 0))
   pub tally_segments_before : (m : List ℕ) (v : Service) (at : ℕ) → OnlyIs (passed (length m) at (segments_from v m 0))
   pub tally_segment_start : (m : List ℕ) (v : Service) (before : ℕ) → OnlyIs (start_at v m before)
-  -- rule: by whatever rules it judges
-  pub rule_places : (text : Text) (t : Table) → OnlyUpTo places_held (λ (r : Places). (places_left r ≡ placed_on t text.service text.bytes.now) × (r.text ≡ text))
+  -- rule: by whatever rules it judges; of a reader of placed segments, those that are left, and with them the text
+  pub rule_places : (text : Text) (t : Table) → OnlyUpTo places_left (λ (r : Places). places_left r ≡ placed_on t text.service text.bytes.now)
+  pub rule_places_text : (text : Text) (t : Table) → OnlyUpTo places_held (λ (r : Places). (places_left r ≡ placed_on t text.service text.bytes.now) × (r.text ≡ text))
   pub rule_next : (r : Places) → OnlyUpTo (place_read r.text) (λ (x : Option Place × Places). PlaceNext r x.0 x.1)
   pub rule_refusal : (rules : List (ℕ × List ℕ)) (other : Option Fault) → Only (λ (f : Option Fault). told_of f ≡ by_rules rules (told_of other))
   pub rule_judge : (rules : List Seg → List (ℕ × List ℕ)) (m : List ℕ) (v : Service) (t : Table) → Only (λ (f : Option Fault). told_of f ≡ by_rules (rules (placed_on t v m)) None)
